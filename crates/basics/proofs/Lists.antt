@@ -1,0 +1,144 @@
+-- General laws of lists: what is in them, and the functions of specs/Lists.antt.
+use Prim.Native.Nat.{ℕ, zero, suc, _+_, _-_, _≤_, _<_}
+use mathlib.Core.Path.{_≡_, refl, sym, ap, subst, _∙_}
+use mathlib.Core.Bool.{Bool, true, false, cond, _||_}
+use mathlib.Core.List.{List, [], _∷_, _++_, map, flatMap, append-nil, List·Memᴰ, List·Memᴰ·head, List·Memᴰ·tail, List·Memᴰ·cases-cons, List·Memᴰ·not-nil, List·Memᴰ·append-cases, Memᴰ·append-left, Memᴰ·append-right}
+use mathlib.Core.Logic.{_⊎_, inl, inr, ⊎-elim, by-cases}
+use native.Mathlib.Decide.{decLe}
+use native.Mathlib.Numerals.{add-one}
+use native.Mathlib.Omega.{arith}
+use lib.Dec.{T}
+use lib.ListN.{length, getD, take, drop, set, drop-of-length-le}
+use lib.Seq.{drop-cons, take-suc, set-at, append-snoc, length-take-le, take-all}
+use Rattle.basics.specs.Lists.{any, keep, firstOf, upFrom}
+use Rattle.basics.proofs.Tests.{true-or-false, T-true, true-T, or-cases, or-left, or-right}
+
+-- ---- any: some element passes
+
+pub any-find : {A : Type 0} (test : A → Bool) (xs : List A) → T (any test xs) → (x : A) × List·Memᴰ x xs × T (test x)
+unfolding any
+any-find test [] h = absurd h
+any-find test (x ∷ xs) h =
+    ⊎-elim (λ a. (x, List·Memᴰ·head refl, a))
+    (λ b. let r = any-find test xs b in (r .0, List·Memᴰ·tail (r .1), r .2))
+    (or-cases (test x) (any test xs) h)
+
+pub any-keep : {A : Type 0} (test : A → Bool) (x : A) {xs : List A} → List·Memᴰ x xs → T (test x) → T (any test xs)
+unfolding any
+any-keep test x (List·Memᴰ·head {x = y} {xs} e) h = or-left (test y) (any test xs) (subst (λ z. T (test z)) e h)
+any-keep test x (List·Memᴰ·tail {x = y} {xs} m) h = or-right (test y) (any test xs) (any-keep test x m h)
+
+-- ---- keep: exactly the elements that pass
+
+pub keep-find : {A : Type 0} (test : A → Bool) (x : A) (xs : List A) → List·Memᴰ x (keep test xs) → List·Memᴰ x xs × T (test x)
+unfolding keep
+keep-find test x [] i = absurd (List·Memᴰ·not-nil i)
+keep-find test x (y ∷ ys) i =
+    ⊎-elim
+    (λ e. let j : List·Memᴰ x (y ∷ keep test ys) = rw e at i in
+    ⊎-elim (λ h. (List·Memᴰ·head h, true-T (test x) (ap test h ∙ e)))
+    (λ h. let r = keep-find test x ys h in (List·Memᴰ·tail (r .0), r .1)) (List·Memᴰ·cases-cons j))
+    (λ e. let j : List·Memᴰ x (keep test ys) = rw e at i in
+    let r = keep-find test x ys j in (List·Memᴰ·tail (r .0), r .1))
+    (true-or-false (test y))
+
+pub keep-keep : {A : Type 0} (test : A → Bool) (x : A) {xs : List A} → List·Memᴰ x xs → T (test x) → List·Memᴰ x (keep test xs)
+unfolding keep
+keep-keep test x (List·Memᴰ·head {x = y} {xs} e) h =
+    let t : test y ≡ true = T-true (test y) (subst (λ z. T (test z)) e h) in rw t (List·Memᴰ·head e)
+keep-keep test x (List·Memᴰ·tail {x = y} {xs} m) h =
+    ⊎-elim (λ e. rw e (List·Memᴰ·tail (keep-keep test x m h))) (λ e. rw e (keep-keep test x m h)) (true-or-false (test y))
+
+-- ---- flatMap: an element comes from one of the lists
+
+pub flatMap-find : {A B : Type 0} (g : A → List B) (xs : List A) (y : B) → List·Memᴰ y (flatMap g xs) → (x : A) × List·Memᴰ x xs × List·Memᴰ y (g x)
+unfolding flatMap
+flatMap-find g [] y i = absurd (List·Memᴰ·not-nil i)
+flatMap-find g (x ∷ xs) y i =
+    ⊎-elim (λ a. (x, List·Memᴰ·head refl, a))
+    (λ b. let r = flatMap-find g xs y b in (r .0, List·Memᴰ·tail (r .1), r .2)) (List·Memᴰ·append-cases (g x) i)
+
+pub flatMap-keep : {A B : Type 0} (g : A → List B) {xs : List A} (y : B) {x : A} → List·Memᴰ x xs → List·Memᴰ y (g x) → List·Memᴰ y (flatMap g xs)
+unfolding flatMap
+flatMap-keep g y (List·Memᴰ·head {x} {xs} e) i = Memᴰ·append-left (flatMap g xs) (subst (λ z. List·Memᴰ y (g z)) e i)
+flatMap-keep g y (List·Memᴰ·tail {x} {xs} m) i = Memᴰ·append-right (g x) (flatMap-keep g y m i)
+
+-- ---- map
+
+pub map-find : {A B : Type 0} (f : A → B) (xs : List A) (y : B) → List·Memᴰ y (map f xs) → (x : A) × List·Memᴰ x xs × (y ≡ f x)
+map-find f [] y i = absurd (List·Memᴰ·not-nil i)
+map-find f (x ∷ xs) y i =
+    ⊎-elim (λ e. (x, List·Memᴰ·head refl, e))
+    (λ b. let r = map-find f xs y b in (r .0, List·Memᴰ·tail (r .1), r .2)) (List·Memᴰ·cases-cons i)
+
+pub map-keep : {A B : Type 0} (f : A → B) {xs : List A} {x : A} → List·Memᴰ x xs → List·Memᴰ (f x) (map f xs)
+map-keep f (List·Memᴰ·head e) = List·Memᴰ·head (ap f e)
+map-keep f (List·Memᴰ·tail i) = List·Memᴰ·tail (map-keep f i)
+
+-- ---- upFrom: exactly the numbers a, a + 1, .., a + n - 1
+
+pub upFrom-has : (a n p : ℕ) → a ≤ p → p < a + n → List·Memᴰ p (upFrom a n)
+unfolding upFrom
+upFrom-has a zero p l h = absurd (omega arith)
+upFrom-has a (suc n) p l h =
+    by-cases (decLe (suc a) p) (λ u. List·Memᴰ·tail (upFrom-has (suc a) n p u (omega arith)))
+    (λ u. let e : p ≡ a = omega arith in List·Memᴰ·head e)
+
+pub upFrom-length : (a n : ℕ) → length (upFrom a n) ≡ n
+unfolding upFrom
+upFrom-length a zero = refl
+upFrom-length a (suc n) = ap suc (upFrom-length (suc a) n)
+
+pub upFrom-at : (a n i d : ℕ) → i < n → getD (upFrom a n) i d ≡ a + i
+unfolding upFrom
+upFrom-at a zero i d h = absurd (omega arith)
+upFrom-at a (suc n) zero d h = omega arith
+upFrom-at a (suc n) (suc i) d h = upFrom-at (suc a) n i d (omega arith) ∙ (let e : suc a + i ≡ a + suc i = omega arith in e)
+
+-- ---- firstOf: a search that has passed i elements
+
+abbrev pub Passed : {A : Type 0} → (A → Bool) → List A → ℕ → Type 0
+Passed test s i = firstOf test s ≡ i + firstOf test (drop i s)
+
+pub passed-none : {A : Type 0} (test : A → Bool) (s : List A) → Passed test s 0
+passed-none test [] = omega arith
+passed-none test (x ∷ s) = omega arith
+
+pub passed-miss : {A : Type 0} (test : A → Bool) (s : List A) (i : ℕ) (d : A) → i < length s → test (getD s i d) ≡ false → Passed test s i → Passed test s (i + 1)
+unfolding firstOf
+passed-miss test s i d h e j =
+    let k : firstOf test (drop i s) ≡ suc (firstOf test (drop (i + 1) s)) = rw (add-one, drop-cons s i d h, e) in
+    omega arith
+
+pub passed-hit : {A : Type 0} (test : A → Bool) (s : List A) (i : ℕ) (d : A) → i < length s → test (getD s i d) ≡ true → Passed test s i → firstOf test s ≡ i
+unfolding firstOf
+passed-hit test s i d h e j =
+    let k : firstOf test (drop i s) ≡ 0 = rw (drop-cons s i d h, e) in omega arith
+
+pub firstOf-le : {A : Type 0} (test : A → Bool) (s : List A) → firstOf test s ≤ length s
+unfolding firstOf
+firstOf-le test [] = omega arith
+firstOf-le test (x ∷ s) = ⊎-elim (λ e. rw e (omega arith)) (λ e. rw e (omega (arith, firstOf-le test s))) (true-or-false (test x))
+
+pub passed-end : {A : Type 0} (test : A → Bool) (s : List A) (i : ℕ) → length s ≤ i → Passed test s i → firstOf test s ≡ i
+passed-end test s i h j = omega (arith, firstOf-le test s)
+
+-- where the search finds nothing, the test fails at each index
+pub none-passes : {A : Type 0} (test : A → Bool) (s : List A) → length s ≤ firstOf test s → (i : ℕ) (d : A) → i < length s → test (getD s i d) ≡ false
+unfolding firstOf
+none-passes test [] h i d l = absurd (omega arith)
+none-passes test (x ∷ s) h zero d l = ⊎-elim (λ e. absurd (omega (arith, rw e at h))) (λ e. e) (true-or-false (test x))
+none-passes test (x ∷ s) h (suc i) d l =
+    ⊎-elim (λ e. absurd (omega (arith, rw e at h)))
+    (λ e. let k = rw e at h in none-passes test s (omega arith) i d (omega arith)) (true-or-false (test x))
+
+-- ---- a list that is filled from the front: one store more, and all
+
+pub filled-more : {A : Type 0} (new old : List A) (i : ℕ) (d : A) → i < length new → i < length old →
+    set (take i new ++ drop i old) i (getD new i d) ≡ take (i + 1) new ++ drop (i + 1) old
+filled-more new old i d h k =
+    rw (add-one, drop-cons old i d k, take-suc new i d h)
+    (set-at (take i new) _ _ _ i (length-take-le i new (omega arith)) ∙ sym (append-snoc (take i new) (getD new i d) (drop (suc i) old)))
+
+pub filled-all : {A : Type 0} (new old : List A) (i : ℕ) → length new ≤ i → length old ≤ i → take i new ++ drop i old ≡ new
+filled-all new old i h k = rw (take-all i new h, drop-of-length-le old k) (append-nil new)

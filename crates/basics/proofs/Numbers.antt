@@ -1,0 +1,31 @@
+-- General laws of natural numbers.
+use Prim.Native.Nat.{ℕ, zero, suc, _+_, _-_, _*_, _≤_, _<_, max}
+use mathlib.Core.Path.{_≡_, refl, sym}
+use mathlib.Core.Logic.{_⊎_, inl, inr, ⊎-elim, by-cases}
+use native.Mathlib.Decide.{decLe}
+use native.Mathlib.Omega.{arith, max-cases}
+use lib.Dec.{ltb}
+use borrow.Author.Tests.{lt-ltb, le-ltb}
+
+pub le-or-lt : (a b : ℕ) → (a ≤ b) ⊎ (b < a)
+le-or-lt a b = by-cases (decLe a b) inl (λ n. inr (omega arith))
+
+-- what is not above a maximum is not above one of the two
+pub le-max-split : (t a b : ℕ) → t ≤ max a b → (t ≤ a) ⊎ (t ≤ b)
+le-max-split t a b h = max-cases a b ((t ≤ a) ⊎ (t ≤ b)) (λ p e. inr (omega arith)) (λ p e. inl (omega arith))
+
+-- a number is known by the positive numbers up to it
+pub known-below :
+    (a b : ℕ) → ((t : ℕ) → 1 ≤ t → t ≤ a → t ≤ b) → ((t : ℕ) → 1 ≤ t → t ≤ b → t ≤ a) → a ≡ b
+known-below zero zero up down = refl
+known-below zero (suc b) up down = absurd (omega (arith, down (suc b) (omega arith) (omega arith)))
+known-below (suc a) zero up down = absurd (omega (arith, up (suc a) (omega arith) (omega arith)))
+known-below (suc a) (suc b) up down =
+    omega (arith, up (suc a) (omega arith) (omega arith), down (suc b) (omega arith) (omega arith))
+
+-- two tests of order agree where the orders do
+pub ltb-same : (a b c d : ℕ) → (a < b → c < d) → (c < d → a < b) → ltb a b ≡ ltb c d
+ltb-same a b c d up down = ⊎-elim
+    (λ h. rw (le-ltb a b h) (sym (le-ltb c d (by-cases (decLe d c) (λ l. l) (λ l. absurd (omega (arith, down (omega arith))))))))
+    (λ h. rw (lt-ltb a b h) (sym (lt-ltb c d (up h))))
+    (le-or-lt b a)

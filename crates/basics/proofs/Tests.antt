@@ -1,0 +1,45 @@
+-- General laws of tests: a Bool is one of two, and what the connectives say.
+use mathlib.Core.Path.{_≡_, refl}
+use mathlib.Core.Bool.{Bool, true, false, _&&_, _||_, true≢false}
+use mathlib.Core.Logic.{_⊎_, inl, inr}
+use lib.Dec.{T}
+
+pub true-or-false : (b : Bool) → (b ≡ true) ⊎ (b ≡ false)
+true-or-false true = inl refl
+true-or-false false = inr refl
+
+pub T-true : (b : Bool) → T b → b ≡ true
+T-true true h = refl
+T-true false h = absurd h
+
+pub true-T : (b : Bool) → b ≡ true → T b
+true-T b e = rw e tt
+
+pub or-cases : (a b : Bool) → T (a || b) → T a ⊎ T b
+or-cases true b h = inl tt
+or-cases false b h = inr h
+
+pub or-left : (a b : Bool) → T a → T (a || b)
+or-left true b h = tt
+or-left false b h = absurd h
+
+pub or-right : (a b : Bool) → T b → T (a || b)
+or-right true b h = tt
+or-right false b h = h
+
+-- neither of two tests passes
+pub or-false-left : (a b : Bool) → (a || b) ≡ false → a ≡ false
+or-false-left true b e = e
+or-false-left false b e = refl
+
+pub or-false-right : (a b : Bool) → (a || b) ≡ false → b ≡ false
+or-false-right true b e = absurd (true≢false e)
+or-false-right false b e = e
+
+pub and-both : (a b : Bool) → T (a && b) → T a × T b
+and-both true b h = (tt, h)
+and-both false b h = absurd h
+
+pub both-and : (a b : Bool) → T a → T b → T (a && b)
+both-and true b h k = k
+both-and false b h k = absurd h

@@ -1,0 +1,45 @@
+-- The answer enums, case by case, in document 01's numbers and values.
+use Prim.Native.Nat.{ℕ}
+use mathlib.Core.Bool.{cond}
+use mathlib.Core.List.{List}
+use lib.IntN.{ℤ}
+use Rattle.plate.specs.Paths.{Reached, Reached.at, Reached.leaves, numberedStep}
+use Rattle.plate.specs.Refusals.{Verdict, Verdict.accepted, Verdict.refused, badSize}
+use Rattle.plate.specs.declared.setting.Setting.{Setting}
+use Rattle.plate.specs.declared.setting.Made.{Made}
+use Rattle.plate.specs.declared.setting.Made.the-variants.{Valid, Refused as Unmade}
+use Rattle.plate.specs.declared.answer.Answer.{Answer}
+use Rattle.plate.specs.declared.answer.Answer.the-variants.{Done, Refused}
+use Rattle.plate.specs.declared.walker.Walker.{Walker}
+use Rattle.plate.specs.declared.walker.Moved.{Moved}
+use Rattle.plate.specs.declared.walker.Moved.the-variants.{To, Leaves}
+
+-- making a setting
+abbrev pub made : Made → Verdict Setting
+made (Valid s) = accepted s
+made (Unmade number place) = refused number place
+
+-- a call that fills a lent result
+abbrev pub answered : Answer → Verdict Unit
+answered Done = accepted tt
+answered (Refused number place) = refused number place
+
+-- what the lent result then holds: the new levels, or after a refusal what it held before
+abbrev pub resultAfter : Answer → List ℤ → List ℤ → List ℤ
+resultAfter Done new old = new
+resultAfter (Refused number place) new old = old
+
+-- a walker's step: where it leads, and the walker there
+abbrev pub reached : Moved → Reached
+reached (To w) = at (w .place)
+reached Leaves = leaves
+
+-- the walker as it was, at another place
+abbrev pub moved : Walker → Reached → Moved
+moved w (at q) = To (record { width = w .width; height = w .height; direction = w .direction; place = q })
+moved w leaves = Leaves
+
+-- the numbered step of a walker; on sizes that refusal 1 forbids every step leaves
+unfoldable pub walked : Walker → ℕ → Moved
+walked w number =
+    moved w (cond (badSize (w .width) (w .height)) leaves (numberedStep (w .width) (w .height) (w .direction) number (w .place)))

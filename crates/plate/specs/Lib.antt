@@ -1,0 +1,7 @@
+pub mod Limits
+pub mod Levels
+pub mod Directions
+pub mod Paths
+pub mod Opening
+pub mod Refusals
+pub mod Answers

@@ -1,0 +1,133 @@
+-- Document 01, section 5: the refusal table. Each row is a check, and each call runs its checks in the table's order.
+use Prim.Native.Nat.{ℕ, _+_, _*_}
+use mathlib.Core.Bool.{Bool, cond, not, _||_}
+use mathlib.Core.List.{List, [], _∷_, _++_}
+use lib.Dec.{ltb, leb, eqb}
+use lib.ListN.{length}
+use lib.IntN.{ℤ}
+use lib.Signed.{ltZ}
+use Rattle.basics.specs.Lists.{firstOf}
+use Rattle.plate.specs.Limits.{maxSide, maxPixels, maxReading, minCorrection, maxCorrection, maxLength, maxGaps, maxDirections, maxMode}
+use Rattle.plate.specs.Levels.{signed}
+use Rattle.plate.specs.Paths.{crossed}
+use Rattle.plate.specs.Opening.{levelAt, filtered}
+use Rattle.plate.specs.declared.setting.Setting.{Setting}
+
+-- what a call comes to: it is accepted, with what it returns, or refused with a number and a place
+pub data Verdict (A : Type 0) : Type 0 where
+  accepted : A → Verdict A
+  refused : ℕ → ℕ → Verdict A
+
+-- a row of the table: does it refuse, and with which number and place?
+pub record Check : Type 0 where
+  pub refuses : Bool
+  pub number : ℕ
+  pub place : ℕ
+
+abbrev pub row : ℕ → Bool → ℕ → Check
+row number refuses place = record { refuses = refuses; number = number; place = place }
+
+-- the first check that refuses decides; where none does, the call is accepted and returns a
+unfoldable pub judged : {A : Type 0} → List Check → A → Verdict A
+judged [] a = accepted a
+judged (c ∷ cs) a = cond (c .refuses) (refused (c .number) (c .place)) (judged cs a)
+
+-- ---- the rows
+
+-- W or H is 0 or above 1,024, or W × H above 65,536
+unfoldable pub badSize : ℕ → ℕ → Bool
+badSize W H = eqb W 0 || ltb maxSide W || eqb H 0 || ltb maxSide H || ltb maxPixels (W * H)
+
+abbrev pub sizeCheck : ℕ → ℕ → Check
+sizeCheck W H = row 1 (badSize W H) 0
+
+-- L is 0 or above 1,024
+abbrev pub lengthCheck : ℕ → Check
+lengthCheck L = row 2 (eqb L 0 || ltb maxLength L) 0
+
+-- k above 8, or k not less than L
+abbrev pub gapsCheck : ℕ → ℕ → Check
+gapsCheck k L = row 3 (ltb maxGaps k || leb L k) 0
+
+-- ways 0 or above 15
+abbrev pub directionsCheck : ℕ → Check
+directionsCheck set = row 4 (eqb set 0 || ltb maxDirections set) 0
+
+-- mode above 1
+abbrev pub modeCheck : ℕ → Check
+modeCheck mode = row 5 (ltb maxMode mode) 0
+
+-- an input buffer hasn't exactly W × H numbers
+abbrev pub inputCheck : ℕ → ℕ → Check
+inputCheck pixels room = row 6 (not (eqb room pixels)) 0
+
+-- result not exactly W × H numbers, or path buffer not exactly L
+abbrev pub resultCheck : ℕ → ℕ → Check
+resultCheck wanted room = row 7 (not (eqb room wanted)) 0
+
+-- work under 4 × (k + 1) × W × H numbers
+abbrev pub workCheck : ℕ → ℕ → ℕ → Check
+workCheck k pixels room = row 8 (ltb room (4 * (k + 1) * pixels)) 0
+
+-- a reading above 4,095, with the first such place
+unfoldable pub badReading : ℕ → Bool
+badReading reading = ltb maxReading reading
+
+abbrev pub readingsCheck : List ℕ → Check
+readingsCheck readings = row 9 (ltb (firstOf badReading readings) (length readings)) (firstOf badReading readings)
+
+-- a correction out of bounds, with the first such place
+unfoldable pub badCorrection : ℕ → Bool
+badCorrection word = ltZ (signed word) minCorrection || ltZ maxCorrection (signed word)
+
+abbrev pub correctionsCheck : List ℕ → Check
+correctionsCheck words = row 10 (ltb (firstOf badCorrection words) (length words)) (firstOf badCorrection words)
+
+-- trace place not below W × H
+abbrev pub placeCheck : ℕ → ℕ → Check
+placeCheck pixels x = row 11 (leb pixels x) 0
+
+-- no path of length L through the pixel
+abbrev pub pathCheck : Bool → Check
+pathCheck crossed = row 12 (not crossed) 0
+
+-- ---- the calls
+
+abbrev pub settingChecks : Setting → List Check
+settingChecks s =
+    lengthCheck (s .length) ∷ gapsCheck (s .gaps) (s .length) ∷ directionsCheck (s .directions) ∷ modeCheck (s .mode) ∷ []
+
+-- making a setting: 2 to 5
+unfoldable pub settingVerdict : Setting → Verdict Setting
+settingVerdict s = judged (settingChecks s) s
+
+-- correction: 1, 6, 7, 9, 10, the result having room for so many levels
+unfoldable pub correctionVerdict : ℕ → ℕ → List ℕ → List ℕ → ℕ → Verdict Unit
+correctionVerdict W H readings words room =
+    judged
+    (sizeCheck W H
+    ∷ inputCheck (W * H) (length readings)
+    ∷ inputCheck (W * H) (length words)
+    ∷ resultCheck (W * H) room
+    ∷ readingsCheck readings
+    ∷ correctionsCheck words
+    ∷ [])
+    tt
+
+-- filters: 1 to 8, with the lengths of plate, result and work
+abbrev pub filterChecks : ℕ → ℕ → Setting → ℕ → ℕ → ℕ → ℕ → List Check
+filterChecks W H s plate wanted room work =
+    sizeCheck W H
+    ∷ settingChecks s
+    ++ (inputCheck (W * H) plate ∷ resultCheck wanted room ∷ workCheck (s .gaps) (W * H) work ∷ [])
+
+unfoldable pub filterVerdict : ℕ → ℕ → Setting → ℕ → ℕ → ℕ → Verdict Unit
+filterVerdict W H s plate room work = judged (filterChecks W H s plate (W * H) room work) tt
+
+-- the trace: 1 to 8, 11, 12, with the traced place x and the lengths of path and work; accepted, it returns the filtered level at x
+unfoldable pub traceVerdict : ℕ → ℕ → Setting → List ℤ → ℕ → ℕ → ℕ → Verdict ℤ
+traceVerdict W H s f x room work =
+    judged
+    (filterChecks W H s (length f) (s .length) room work
+    ++ (placeCheck (W * H) x ∷ pathCheck (crossed W H (s .directions) (s .length) x) ∷ []))
+    (levelAt (filtered s W H f) x)

@@ -1,0 +1,15 @@
+// The plate: what the engine works on, and its small parts.
+//
+// specs/ holds document 01's definitions, in its order: limits, levels, directions, paths, opening and
+// closing, the refusal table. The functions here are the leaves: the step table and the walker, the
+// setting, the arithmetic of levels, and the correction of a plate of readings. Each answers on every
+// input; none has a `requires`.
+mod answer;
+mod setting;
+mod walker;
+
+pub use answer::Answer;
+pub use setting::Made;
+pub use setting::Setting;
+pub use walker::Moved;
+pub use walker::Walker;

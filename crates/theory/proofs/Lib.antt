@@ -1,0 +1,2 @@
+pub mod WorkedPlates
+pub mod Walks

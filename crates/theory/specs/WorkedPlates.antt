@@ -1,0 +1,100 @@
+-- Document 01, section 7: the worked plates marked P, as one table. proofs/WorkedPlates.antt shows that the definitions give these values.
+use Prim.Native.Nat.{ℕ, _+_, _*_}
+use mathlib.Core.Bool.{Bool, true, false, _&&_}
+use mathlib.Core.List.{List, [], _∷_}
+use lib.Dec.{eqb}
+use lib.IntN.{ℤ, pos, negsuc}
+use Rattle.plate.specs.Opening.{filtered}
+use Rattle.plate.specs.Refusals.{Verdict, Verdict.accepted, Verdict.refused, traceVerdict}
+use Rattle.plate.specs.declared.setting.Setting.{Setting}
+
+-- a plate of W columns, filtered by a setting
+pub record Worked : Type 0 where
+  pub setting : Setting
+  pub W : ℕ
+  pub H : ℕ
+  pub plate : List ℤ
+  pub result : List ℤ
+
+abbrev setting : ℕ → ℕ → ℕ → ℕ → Setting
+setting mode directions L k = record { length = L; gaps = k; directions = directions; mode = mode }
+
+abbrev worked : Setting → ℕ → ℕ → List ℤ → List ℤ → Worked
+worked s W H f g = record { setting = s; W = W; H = H; plate = f; result = g }
+
+abbrev opening : ℕ
+opening = 0
+
+abbrev closing : ℕ
+closing = 1
+
+abbrev north : ℕ
+north = 1
+
+abbrev east : ℕ
+east = 2
+
+abbrev north-east : ℕ
+north-east = 4
+
+abbrev south-east : ℕ
+south-east = 8
+
+-- where section 7 names no way
+abbrev all-four : ℕ
+all-four = 15
+
+-- −32,768 and 32,767
+abbrev low : ℤ
+low = negsuc 32767
+
+abbrev high : ℤ
+high = pos 32767
+
+-- the plate 9,5,12,8 of one row, and the rows 1,9 and 9,1
+abbrev Q : List ℤ
+Q = pos 9 ∷ pos 5 ∷ pos 12 ∷ pos 8 ∷ []
+
+abbrev X : List ℤ
+X = pos 1 ∷ pos 9 ∷ pos 9 ∷ pos 1 ∷ []
+
+-- P2 gives its one pixel no level
+abbrev one-pixel : List ℤ
+one-pixel = pos 3 ∷ []
+
+unfoldable pub workedPlates : List Worked
+workedPlates =
+    worked (setting opening all-four 1 0) 1 1 (negsuc 6 ∷ []) (negsuc 6 ∷ [])  -- P1
+    ∷ worked (setting opening all-four 2 1) 1 1 one-pixel (low ∷ [])  -- P2
+    ∷ worked (setting opening east 4 1) 4 1 Q (pos 8 ∷ pos 5 ∷ pos 8 ∷ pos 8 ∷ [])  -- P3
+    ∷ worked (setting opening east 4 0) 4 1 Q (pos 5 ∷ pos 5 ∷ pos 5 ∷ pos 5 ∷ [])  -- P4
+    ∷ worked (setting closing east 4 1) 4 1 Q (pos 9 ∷ pos 9 ∷ pos 12 ∷ pos 9 ∷ [])  -- P5
+    ∷ worked (setting opening north 2 0) 4 1 Q (low ∷ low ∷ low ∷ low ∷ [])  -- P6
+    ∷ worked (setting closing north 2 0) 4 1 Q (high ∷ high ∷ high ∷ high ∷ [])  -- P6
+    ∷ worked (setting opening north-east 2 0) 4 1 Q (pos 5 ∷ pos 5 ∷ pos 8 ∷ pos 8 ∷ [])  -- P7
+    ∷ worked (setting opening north-east 2 0) 2 2 X (pos 1 ∷ pos 9 ∷ pos 9 ∷ pos 1 ∷ [])  -- P8
+    ∷ worked (setting opening south-east 2 0) 2 2 X (pos 1 ∷ pos 1 ∷ pos 1 ∷ pos 1 ∷ [])  -- P9
+    ∷ worked (setting closing all-four 1 0) 1 1 (low ∷ []) (low ∷ [])  -- P10
+    ∷ []
+
+unfoldable pub sameLevel : ℤ → ℤ → Bool
+sameLevel (pos a) (pos b) = eqb a b
+sameLevel (pos a) (negsuc b) = false
+sameLevel (negsuc a) (pos b) = false
+sameLevel (negsuc a) (negsuc b) = eqb a b
+
+-- are two plates the same, level by level?
+unfoldable pub same : List ℤ → List ℤ → Bool
+same [] [] = true
+same [] (y ∷ ys) = false
+same (x ∷ xs) [] = false
+same (x ∷ xs) (y ∷ ys) = sameLevel x y && same xs ys
+
+-- do the definitions give these results?
+unfoldable pub allHold : List Worked → Bool
+allHold [] = true
+allHold (w ∷ ws) = same (filtered (w .setting) (w .W) (w .H) (w .plate)) (w .result) && allHold ws
+
+-- P2: its trace is refused with 12 (with a path buffer and a work buffer of the right lengths)
+unfoldable pub tracedP2 : Verdict ℤ
+tracedP2 = traceVerdict 1 1 (setting opening all-four 2 1) one-pixel 0 2 (4 * (1 + 1) * 1)
