@@ -29,3 +29,14 @@ ltb-same a b c d up down = ⊎-elim
     (λ h. rw (le-ltb a b h) (sym (le-ltb c d (by-cases (decLe d c) (λ l. l) (λ l. absurd (omega (arith, down (omega arith))))))))
     (λ h. rw (lt-ltb a b h) (sym (lt-ltb c d (up h))))
     (le-or-lt b a)
+
+-- a number below three or four is one of those
+pub below-three : (P : ℕ → Type 0) → P 0 → P 1 → P 2 → (n : ℕ) → n < 3 → P n
+below-three P a b c zero h = a
+below-three P a b c (suc zero) h = b
+below-three P a b c (suc (suc zero)) h = c
+below-three P a b c (suc (suc (suc n))) h = absurd (omega arith)
+
+pub below-four : (P : ℕ → Type 0) → P 0 → P 1 → P 2 → P 3 → (n : ℕ) → n < 4 → P n
+below-four P a b c d zero h = a
+below-four P a b c d (suc n) h = below-three (λ (m : ℕ). P (suc m)) b c d n (omega arith)

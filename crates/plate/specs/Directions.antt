@@ -3,6 +3,7 @@ use Prim.Native.Nat.{ℕ, _/_, _%_}
 use mathlib.Core.Bool.{Bool, cond}
 use mathlib.Core.List.{List, [], _∷_, map}
 use lib.Dec.{eqb}
+use lib.ListN.{getD}
 use lib.IntN.{ℤ, pos, negsuc}
 use Rattle.basics.specs.Lists.{keep}
 
@@ -39,6 +40,10 @@ table =
     ∷ direction 4 (by +1 ±0) (by +1 −1) (by ±0 −1)
     ∷ direction 8 (by +1 ±0) (by +1 +1) (by ±0 +1)
     ∷ []
+
+-- the numbered step of the direction that stands at this index of the table, counted from 0; no change where there is none
+unfoldable pub stepAt : ℕ → ℕ → Step
+stepAt index number = getD (getD (map (λ d. d .steps) table) index []) number (by ±0 ±0)
 
 unfoldable pub stepsIn : List Direction → ℕ → List Step
 stepsIn [] bit = []

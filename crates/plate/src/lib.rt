@@ -6,10 +6,15 @@
 // input; none has a `requires`.
 mod answer;
 mod setting;
+mod steps;
 mod walker;
 
 pub use answer::Answer;
 pub use setting::Made;
 pub use setting::Setting;
+pub use steps::DIRECTIONS;
+pub use steps::STEPS_EACH;
+pub use steps::column_change;
+pub use steps::row_change;
 pub use walker::Moved;
 pub use walker::Walker;

@@ -1,0 +1,2 @@
+pub mod StepTable
+pub mod Keys

@@ -1,0 +1,44 @@
+-- `column_change` reads the table of the definitions: entry by entry inside it, and no change past it.
+use borrow.Author.Needs.{needs}
+use mathlib.Core.Path.{sym, ap}
+use Rattle.plate.specs.Directions.{Step}
+use Rattle.plate.proofs.StepTable.{Entry, entry-is, past-table, past-steps}
+use Rattle.plate.proofs.steps.column_change.Statement.{statement}
+use Rattle.plate.proofs.steps.column_change.Tie as tie
+
+returns : tie.Need-returns
+returns c = sym (ap (λ (s : Step). s .column) (past-table _ _ (c .if1 .taken)))
+
+returns-2 : tie.Need-returns-2
+returns-2 c = sym (ap (λ (s : Step). s .column) (past-steps _ _ (c .before .if1 .left) (c .if2 .taken)))
+
+mul-result : tie.Need-mul-result
+mul-result c = search needs
+
+mul-result-2 : tie.Need-mul-result-2
+mul-result-2 c = search needs
+
+index-1-result : tie.Need-index-1-result
+index-1-result c = search needs
+
+index-2-result : tie.Need-index-2-result
+index-2-result c = search needs
+
+index-3-result : tie.Need-index-3-result
+index-3-result c = search needs
+
+returns-3 : tie.Need-returns-3
+returns-3 c = entry-is _ _ (c .before .before .if1 .left) (c .before .if2 .left) .column
+
+pub column-change-spec : {M : Type 1} → statement M
+column-change-spec =
+    tie.close
+    (tie.spec
+    returns
+    returns-2
+    mul-result
+    mul-result-2
+    index-1-result
+    index-2-result
+    index-3-result
+    returns-3)

@@ -1,0 +1,41 @@
+ghost use mathlib.Core.Path.{_≡_};
+ghost use Rattle.plate.specs.Directions.{stepAt};
+
+// The step table of document 01, section 2: for each direction (document 01: way) three steps, each
+// a column change and a row change.
+const STEPS: [[[i8; 2]; 3]; 4] = [
+    [[-1, -1], [0, -1], [1, -1]], // north
+    [[1, -1], [1, 0], [1, 1]], // east
+    [[1, 0], [1, -1], [0, -1]], // north-east
+    [[1, 0], [1, 1], [0, 1]], // south-east
+];
+
+pub const DIRECTIONS: usize = 4;
+
+pub const STEPS_EACH: usize = 3;
+
+// The column change of a numbered step of the direction with this index; 0 past the table.
+pub fn column_change(index: usize, number: usize) -> i8
+    ensures { λ r. ⌜ r ≡ stepAt index number .column ⌝ }
+{
+    if index >= DIRECTIONS {
+        return 0;
+    }
+    if number >= STEPS_EACH {
+        return 0;
+    }
+    STEPS[index][number][0]
+}
+
+// The row change of the same step.
+pub fn row_change(index: usize, number: usize) -> i8
+    ensures { λ r. ⌜ r ≡ stepAt index number .row ⌝ }
+{
+    if index >= DIRECTIONS {
+        return 0;
+    }
+    if number >= STEPS_EACH {
+        return 0;
+    }
+    STEPS[index][number][1]
+}
