@@ -1,2 +1,4 @@
 pub mod WorkedPlates
 pub mod Walks
+pub mod Steps
+pub mod Reversal

@@ -1,0 +1,56 @@
+-- A path walked backwards is a path of the negated steps. A single step turns round because adding and then taking away the same change gives the
+-- column and the row back; a walk turns round step by step.
+use Prim.Native.Nat.{ℕ, zero, suc, _+_, _*_, _/_, _%_, _≤_, _<_}
+use mathlib.Core.Path.{_≡_, refl, sym, ap, _∙_}
+use mathlib.Core.List.{List, [], _∷_, map, List·Memᴰ}
+use native.Mathlib.Nat.{div-add-mod', mod-lt, div-lt-iff-lt-mul}
+use native.Mathlib.Omega.{arith}
+use lib.Arith.{digits-div, digits-mod}
+use lib.IntN.{ℤ, pos, _+ℤ_, negℤ, negℤ-negℤ, +ℤ-negℤ-cancel}
+use borrow.Author.Tests.{lt-ltb}
+use Rattle.basics.proofs.Lists.{map-keep}
+use Rattle.plate.specs.Directions.{Step, steps}
+use Rattle.plate.specs.Paths.{Reached.at, stepFrom, reachedBy, next}
+use Rattle.theory.proofs.Steps.{Landed, lands, stepped, landed-on, reached-find, reached-keep}
+
+unfoldable pub minus : Step → Step
+minus s = record { column = negℤ (s .column); row = negℤ (s .row) }
+
+-- the places from which one step of a direction leads to q
+unfoldable pub back : ℕ → ℕ → ℕ → ℕ → List ℕ
+back W H bit q = reachedBy W H (map minus (steps bit)) q
+
+turn-step : (W H : ℕ) (s : Step) (p q : ℕ) → stepFrom W H p s ≡ at q → stepFrom W H q (minus s) ≡ at p
+unfolding stepFrom minus
+turn-step W H s p q e =
+    let hp = stepped W H s p q e .0 in
+    let l = stepped W H s p q e .1 in
+    let qm : q % W ≡ l .col = ap (λ (n : ℕ). n % W) (l .place) ∙ digits-mod (l .row) (l .col<) in
+    let qd : q / W ≡ l .row = ap (λ (n : ℕ). n / W) (l .place) ∙ digits-div (l .row) (l .col<) in
+    let bc : pos (l .col) +ℤ negℤ (s .column) ≡ pos (p % W) =
+    ap (λ (z : ℤ). z +ℤ negℤ (s .column)) (sym (l .is-col)) ∙ +ℤ-negℤ-cancel (pos (p % W)) (s .column) in
+    let br : pos (l .row) +ℤ negℤ (s .row) ≡ pos (p / W) =
+    ap (λ (z : ℤ). z +ℤ negℤ (s .row)) (sym (l .is-row)) ∙ +ℤ-negℤ-cancel (pos (p / W)) (s .row) in
+    let W>0 : zero < W = omega (arith, l .col<) in
+    let pr : p / W < H = div-lt-iff-lt-mul W>0 .1 (omega arith) in
+    rw (lt-ltb q (W * H) (landed-on l), qm, qd, bc, br, lands W H (p % W) (p / W) (mod-lt p W>0) pr, div-add-mod' p W)
+
+turn-by : (W H : ℕ) (ss : List Step) (p q : ℕ) → List·Memᴰ q (reachedBy W H ss p) → List·Memᴰ p (reachedBy W H (map minus ss) q)
+turn-by W H ss p q i =
+    let r = reached-find W H ss p q i in reached-keep W H q p (map-keep minus (r .1)) (turn-step W H (r .0) p q (r .2))
+
+minus-minus : (s : Step) → minus (minus s) ≡ s
+unfolding minus
+minus-minus s = simp negℤ-negℤ
+
+all-minus : (ss : List Step) → map minus (map minus ss) ≡ ss
+all-minus [] = refl
+all-minus (s ∷ ss) = rw (minus-minus s, all-minus ss)
+
+pub turn : (W H bit p q : ℕ) → List·Memᴰ q (next W H bit p) → List·Memᴰ p (back W H bit q)
+unfolding next back
+turn W H bit p q i = turn-by W H (steps bit) p q i
+
+pub turn-back : (W H bit p q : ℕ) → List·Memᴰ q (back W H bit p) → List·Memᴰ p (next W H bit q)
+unfolding next back
+turn-back W H bit p q i = rw (all-minus (steps bit)) at (turn-by W H (map minus (steps bit)) p q i)
