@@ -8,6 +8,8 @@ use lib.Dec.{ltb}
 use lib.IntN.{ℤ, pos, negsuc, _+ℤ_, _-ℤ_, natAbs}
 use lib.Signed.{mag, ltZ}
 use borrow.Author.Tests.{lt-ltb, le-ltb}
+use mir.Syntax.{w16}
+use mir.Val.{SFits}
 use Rattle.basics.proofs.Numbers.{le-or-lt, ltb-same}
 use Rattle.plate.specs.Levels.{lowest, level, key, mirror}
 
@@ -45,12 +47,22 @@ pub key-bound : (v : ℤ) → mag v < 32768 → key v ≤ 65535
 key-bound (pos n) h = omega arith
 key-bound (negsuc n) h = rw (le-ltb 32768 (suc n) h) (omega arith)
 
--- the bits of a level: a number of 16 bits
+-- the key as a sum
+pub key-sum : (v : ℤ) → mag v < 32768 → v +ℤ pos 32768 ≡ pos (key v)
+key-sum (pos n) h = refl
+key-sum (negsuc n) h = rw (le-ltb 32768 (suc n) h)
+
+-- a level with a key of 16 bits has 16 bits itself
 pub level-size : (n : ℕ) → n ≤ 65535 → mag (level n) < 32768
 level-size n h = ⊎-elim
     (λ k. rw (level-positive n k) (omega arith))
     (λ k. rw (level-negative n k) (omega arith))
     (le-or-lt 32768 n)
+
+pub level-fits : (n : ℕ) → n < 65536 → SFits w16 (level n)
+level-fits n h = record { sfits = level-size n (omega arith) }
+
+-- ---- the mirror
 
 mirror-pos : (m : ℕ) → mirror (pos m) ≡ negsuc m
 unfolding mirror
@@ -68,6 +80,9 @@ mirror-mirror (negsuc n) = rw (mirror-negsuc n) (mirror-pos n)
 pub mirror-size : (v : ℤ) → mag (mirror v) ≡ mag v
 mirror-size (pos n) = rw (mirror-pos n)
 mirror-size (negsuc n) = rw (mirror-negsuc n)
+
+pub mirror-fits : (v : ℤ) → SFits w16 v → SFits w16 (mirror v)
+mirror-fits v f = record { sfits = rw (mirror-size v) (f .sfits) }
 
 pub mirror-level : (n : ℕ) → n ≤ 65535 → mirror (level n) ≡ level (65535 - n)
 mirror-level n h = ⊎-elim

@@ -42,20 +42,20 @@ abbrev pub sizeCheck : ℕ → ℕ → Check
 sizeCheck W H = row 1 (badSize W H) 0
 
 -- L is 0 or above 1,024
-abbrev pub lengthCheck : ℕ → Check
-lengthCheck L = row 2 (eqb L 0 || ltb maxLength L) 0
+unfoldable pub badLength : ℕ → Bool
+badLength L = eqb L 0 || ltb maxLength L
 
 -- k above 8, or k not less than L
-abbrev pub gapsCheck : ℕ → ℕ → Check
-gapsCheck k L = row 3 (ltb maxGaps k || leb L k) 0
+unfoldable pub badGaps : ℕ → ℕ → Bool
+badGaps k L = ltb maxGaps k || leb L k
 
 -- ways 0 or above 15
-abbrev pub directionsCheck : ℕ → Check
-directionsCheck set = row 4 (eqb set 0 || ltb maxDirections set) 0
+unfoldable pub badDirections : ℕ → Bool
+badDirections set = eqb set 0 || ltb maxDirections set
 
 -- mode above 1
-abbrev pub modeCheck : ℕ → Check
-modeCheck mode = row 5 (ltb maxMode mode) 0
+unfoldable pub badMode : ℕ → Bool
+badMode mode = ltb maxMode mode
 
 -- an input buffer hasn't exactly W × H numbers
 abbrev pub inputCheck : ℕ → ℕ → Check
@@ -95,7 +95,11 @@ pathCheck crossed = row 12 (not crossed) 0
 
 abbrev pub settingChecks : Setting → List Check
 settingChecks s =
-    lengthCheck (s .length) ∷ gapsCheck (s .gaps) (s .length) ∷ directionsCheck (s .directions) ∷ modeCheck (s .mode) ∷ []
+    row 2 (badLength (s .length)) 0
+    ∷ row 3 (badGaps (s .gaps) (s .length)) 0
+    ∷ row 4 (badDirections (s .directions)) 0
+    ∷ row 5 (badMode (s .mode)) 0
+    ∷ []
 
 -- making a setting: 2 to 5
 unfoldable pub settingVerdict : Setting → Verdict Setting

@@ -3,15 +3,25 @@
 // specs/ holds document 01's definitions, in its order: limits, levels, directions, paths, opening and
 // closing, the refusal table. The functions here are the leaves: the step table and the walker, the
 // setting, the arithmetic of levels, and the correction of a plate of readings. Each answers on every
-// input; none has a `requires`.
+// input; none that is public has a `requires`.
 mod answer;
+mod level;
+pub mod refusal;
 mod setting;
+mod size;
 mod steps;
 mod walker;
 
 pub use answer::Answer;
+pub use level::key_of;
+pub use level::level_of;
+pub use level::mirrored;
+pub use level::signed_correction;
 pub use setting::Made;
 pub use setting::Setting;
+pub use size::MAX_PIXELS;
+pub use size::MAX_SIDE;
+pub use size::bad_size;
 pub use steps::DIRECTIONS;
 pub use steps::STEPS_EACH;
 pub use steps::column_change;

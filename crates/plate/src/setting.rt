@@ -1,6 +1,7 @@
 ghost use mathlib.Core.Path.{_≡_};
-ghost use Rattle.plate.specs.Refusals.{settingVerdict};
+ghost use Rattle.plate.specs.Refusals.{settingVerdict, badLength, badGaps, badDirections, badMode};
 ghost use Rattle.plate.specs.Answers.{made};
+use crate::refusal;
 
 // A setting: the length of a path in pixels, the gaps allowed on it, the set of directions (the sum
 // of their bits; document 01: ways), and the mode, 0 for opening and 1 for closing.
@@ -14,4 +15,91 @@ pub struct Setting {
 pub enum Made {
     Valid(Setting),
     Refused { number: usize, place: usize },
+}
+
+impl Setting {
+    pub const MAX_LENGTH: usize = 1024;
+
+    pub const MAX_GAPS: usize = 8;
+
+    pub const MAX_DIRECTIONS: usize = 15;
+
+    pub const MAX_MODE: usize = 1;
+
+    // The setting itself, or the refusal (2 to 5) of the first number that is out of bounds.
+    pub fn checked(self) -> Made
+        ensures { λ r. ⌜ made r ≡ settingVerdict self ⌝ }
+    {
+        if bad_length(self.length) {
+            return Made::Refused {
+                number: refusal::LENGTH,
+                place: 0,
+            };
+        }
+        if bad_gaps(self.gaps, self.length) {
+            return Made::Refused {
+                number: refusal::GAPS,
+                place: 0,
+            };
+        }
+        if bad_directions(self.directions) {
+            return Made::Refused {
+                number: refusal::DIRECTIONS,
+                place: 0,
+            };
+        }
+        if bad_mode(self.mode) {
+            return Made::Refused {
+                number: refusal::MODE,
+                place: 0,
+            };
+        }
+        Made::Valid(self)
+    }
+
+    // Makes a setting of four numbers, or refuses.
+    pub fn new(length: usize, gaps: usize, directions: usize, mode: usize) -> Made
+        ensures { λ r. ⌜ made r ≡ settingVerdict (record { length = length; gaps = gaps; directions = directions; mode = mode }) ⌝ }
+    {
+        let setting = Setting {
+            length: length,
+            gaps: gaps,
+            directions: directions,
+            mode: mode,
+        };
+        setting.checked()
+    }
+}
+
+fn bad_length(length: usize) -> bool
+    ensures { λ r. ⌜ r ≡ badLength length ⌝ }
+{
+    if length == 0 {
+        return true;
+    }
+    length > Setting::MAX_LENGTH
+}
+
+fn bad_gaps(gaps: usize, length: usize) -> bool
+    ensures { λ r. ⌜ r ≡ badGaps gaps length ⌝ }
+{
+    if gaps > Setting::MAX_GAPS {
+        return true;
+    }
+    gaps >= length
+}
+
+fn bad_directions(directions: usize) -> bool
+    ensures { λ r. ⌜ r ≡ badDirections directions ⌝ }
+{
+    if directions == 0 {
+        return true;
+    }
+    directions > Setting::MAX_DIRECTIONS
+}
+
+fn bad_mode(mode: usize) -> bool
+    ensures { λ r. ⌜ r ≡ badMode mode ⌝ }
+{
+    mode > Setting::MAX_MODE
 }

@@ -1,0 +1,24 @@
+// The numbers of the refusals, in the order of document 01's table (section 5).
+pub const SIZE: usize = 1;
+
+pub const LENGTH: usize = 2;
+
+pub const GAPS: usize = 3;
+
+pub const DIRECTIONS: usize = 4;
+
+pub const MODE: usize = 5;
+
+pub const INPUT: usize = 6;
+
+pub const RESULT: usize = 7;
+
+pub const WORK: usize = 8;
+
+pub const READING: usize = 9;
+
+pub const CORRECTION: usize = 10;
+
+pub const PLACE: usize = 11;
+
+pub const NO_PATH: usize = 12;
