@@ -2,7 +2,7 @@
 use Prim.Native.Nat.{ℕ, zero, suc, _+_, _-_, _≤_, _<_}
 use mathlib.Core.Path.{_≡_, refl, sym, ap, subst, _∙_}
 use mathlib.Core.Bool.{Bool, true, false, cond, _||_}
-use mathlib.Core.List.{List, [], _∷_, _++_, map, flatMap, append-nil, List·Memᴰ, List·Memᴰ·head, List·Memᴰ·tail, List·Memᴰ·cases-cons, List·Memᴰ·not-nil, List·Memᴰ·append-cases, Memᴰ·append-left, Memᴰ·append-right}
+use mathlib.Core.List.{List, [], _∷_, _++_, map, flatMap, zipWith, append-nil, List·Memᴰ, List·Memᴰ·head, List·Memᴰ·tail, List·Memᴰ·cases-cons, List·Memᴰ·not-nil, List·Memᴰ·append-cases, Memᴰ·append-left, Memᴰ·append-right}
 use mathlib.Core.Logic.{_⊎_, inl, inr, ⊎-elim, by-cases}
 use native.Mathlib.Decide.{decLe}
 use native.Mathlib.Numerals.{add-one}
@@ -142,3 +142,18 @@ filled-more new old i d h k =
 
 pub filled-all : {A : Type 0} (new old : List A) (i : ℕ) → length new ≤ i → length old ≤ i → take i new ++ drop i old ≡ new
 filled-all new old i h k = rw (take-all i new h, drop-of-length-le old k) (append-nil new)
+
+-- ---- zipWith of two lists of one length
+
+pub zipWith-length : {A B C : Type 0} (f : A → B → C) (xs : List A) (ys : List B) → length xs ≡ length ys → length (zipWith f xs ys) ≡ length xs
+unfolding zipWith
+zipWith-length f [] ys e = refl
+zipWith-length f (x ∷ xs) [] e = absurd (omega arith)
+zipWith-length f (x ∷ xs) (y ∷ ys) e = ap suc (zipWith-length f xs ys (omega arith))
+
+pub zipWith-at : {A B C : Type 0} (f : A → B → C) (xs : List A) (ys : List B) (i : ℕ) (a : A) (b : B) (c : C) → i < length xs → i < length ys → getD (zipWith f xs ys) i c ≡ f (getD xs i a) (getD ys i b)
+unfolding zipWith
+zipWith-at f [] ys i a b c h k = absurd (omega arith)
+zipWith-at f (x ∷ xs) [] i a b c h k = absurd (omega arith)
+zipWith-at f (x ∷ xs) (y ∷ ys) zero a b c h k = refl
+zipWith-at f (x ∷ xs) (y ∷ ys) (suc i) a b c h k = zipWith-at f xs ys i a b c (omega arith) (omega arith)

@@ -1,2 +1,4 @@
 pub mod StepTable
 pub mod Keys
+pub mod Sizes
+pub mod CorrectedLevels

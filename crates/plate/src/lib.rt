@@ -5,6 +5,7 @@
 // setting, the arithmetic of levels, and the correction of a plate of readings. Each answers on every
 // input; none that is public has a `requires`.
 mod answer;
+mod correction;
 mod level;
 pub mod refusal;
 mod setting;
@@ -13,6 +14,10 @@ mod steps;
 mod walker;
 
 pub use answer::Answer;
+pub use correction::MAX_CORRECTION;
+pub use correction::MAX_READING;
+pub use correction::MIN_CORRECTION;
+pub use correction::correct;
 pub use level::key_of;
 pub use level::level_of;
 pub use level::mirrored;

@@ -1,0 +1,38 @@
+-- What an accepted size says: both sides are 1 to 1,024, and there are at most 65,536 pixels.
+use Prim.Native.Nat.{ℕ, _*_, _≤_}
+use mathlib.Core.Path.{_≡_}
+use mathlib.Core.Bool.{Bool, true, false, _||_}
+use lib.Dec.{ltb, eqb}
+use borrow.Author.Tests.{ltb-false, eqb-false}
+use native.Mathlib.Omega.{arith}
+use Rattle.basics.proofs.Tests.{or-false-left, or-false-right}
+use Rattle.plate.specs.Limits.{maxSide, maxPixels}
+use Rattle.plate.specs.Refusals.{badSize}
+
+pub record GoodSize (W H : ℕ) : Type 0 where
+  pub wide : 1 ≤ W
+  pub narrow : W ≤ 1024
+  pub high : 1 ≤ H
+  pub low : H ≤ 1024
+  pub few : W * H ≤ 65536
+
+pub good-size : (W H : ℕ) → badSize W H ≡ false → GoodSize W H
+unfolding badSize
+good-size W H e =
+    let a = eqb W 0 in
+    let b = ltb maxSide W in
+    let c = eqb H 0 in
+    let d = ltb maxSide H in
+    let f = ltb maxPixels (W * H) in
+    let abcd = or-false-left (a || b || c || d) f e in
+    let abc = or-false-left (a || b || c) d abcd in
+    let ab = or-false-left (a || b) c abc in
+    let W≠0 = eqb-false W 0 (or-false-left a b ab) in
+    let H≠0 = eqb-false H 0 (or-false-right (a || b) c abc) in
+    record {
+      wide = omega (arith, W≠0);
+      narrow = ltb-false 1024 W (or-false-right a b ab);
+      high = omega (arith, H≠0);
+      low = ltb-false 1024 H (or-false-right (a || b || c) d abcd);
+      few = ltb-false 65536 (W * H) (or-false-right (a || b || c || d) f e);
+    }
