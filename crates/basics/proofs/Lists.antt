@@ -142,3 +142,17 @@ filled-more new old i d h k =
 
 pub filled-all : {A : Type 0} (new old : List A) (i : ℕ) → length new ≤ i → length old ≤ i → take i new ++ drop i old ≡ new
 filled-all new old i h k = rw (take-all i new h, drop-of-length-le old k) (append-nil new)
+
+-- what is listed by upFrom lies in its range
+pub upFrom-within : (a n p : ℕ) → List·Memᴰ p (upFrom a n) → (a ≤ p) × (p < a + n)
+unfolding upFrom
+upFrom-within a zero p i = absurd (List·Memᴰ·not-nil i)
+upFrom-within a (suc n) p i =
+    ⊎-elim (λ e. (omega arith, omega arith))
+    (λ j. let r = upFrom-within (suc a) n p j in (omega arith, omega arith)) (List·Memᴰ·cases-cons i)
+
+-- within the list, map acts at each index, whatever stands for what is past the end
+pub map-at : {A B : Type 0} (f : A → B) (xs : List A) (i : ℕ) (a : A) (b : B) → i < length xs → getD (map f xs) i b ≡ f (getD xs i a)
+map-at f [] i a b h = absurd (omega arith)
+map-at f (x ∷ xs) zero a b h = refl
+map-at f (x ∷ xs) (suc i) a b h = map-at f xs i a b (omega arith)

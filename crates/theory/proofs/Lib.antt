@@ -4,3 +4,5 @@ pub mod Steps
 pub mod Reversal
 pub mod Highest
 pub mod Admission
+pub mod Opening
+pub mod Idempotent
