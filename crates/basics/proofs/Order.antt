@@ -1,10 +1,10 @@
 -- The order of signed numbers: the laws that the library does not have, each from the one that it has, a < b ≤ c.
-use mathlib.Core.Path.{_≡_, refl, ap, _∙_}
-use mathlib.Core.Bool.{Bool, true, false, not}
+use mathlib.Core.Path.{_≡_, ap}
+use mathlib.Core.Bool.{true, false}
 use mathlib.Core.Logic.{_⊎_, inl, inr, ⊎-elim}
-use lib.Dec.{T, not-T, leb→le}
+use lib.Dec.{leb→le}
 use lib.IntN.{ℤ, pos, negsuc}
-use lib.Signed.{ltZ, leZ, _≤ℤ_, _<ℤ_, ltZ-yes, ltZ-no, <ℤ-≤ℤ-trans, clashℤ}
+use lib.Signed.{ltZ, _≤ℤ_, _<ℤ_, ltZ-yes, ltZ-no, <ℤ-≤ℤ-trans, clashℤ}
 use native.Mathlib.Nat.{le-antisymm}
 use Rattle.basics.proofs.Tests.{true-or-false, T-true, true-T}
 

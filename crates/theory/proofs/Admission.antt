@@ -1,7 +1,7 @@
 -- The laws of `admits`, and all that is used of it: nothing else opens `admits` or `below`. They come from two, the only ones that a change of the
 -- rule touches: fewer pixels below keep a path admitted, and a path with no pixel below is admitted.
-use Prim.Native.Nat.{ℕ, _+_, _≤_, _<_}
-use mathlib.Core.Path.{_≡_, refl, sym}
+use Prim.Native.Nat.{ℕ, _≤_, _<_}
+use mathlib.Core.Path.{_≡_, refl}
 use mathlib.Core.Bool.{Bool, true, false, cond}
 use mathlib.Core.List.{List, [], _∷_, List·Memᴰ, List·Memᴰ·head, List·Memᴰ·tail}
 use native.Mathlib.Omega.{arith}

@@ -1,7 +1,7 @@
 -- The downward search: `highest test v` is not above v, passes the test unless it is the lowest level, and nothing that passes and is not above
 -- v is above it. All is shown of numbers (`greatest`) and moved to levels by their keys.
-use Prim.Native.Nat.{ℕ, zero, suc, _+_, _≤_, _<_}
-use mathlib.Core.Path.{_≡_, refl, sym, ap, subst, _∙_}
+use Prim.Native.Nat.{ℕ, zero, suc, _≤_, _<_}
+use mathlib.Core.Path.{_≡_, ap, subst}
 use mathlib.Core.Bool.{Bool, true, false}
 use mathlib.Core.Logic.{_⊎_, inl, inr, ⊎-elim, by-cases}
 use native.Mathlib.Decide.{decLe}

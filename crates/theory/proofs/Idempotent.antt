@@ -6,7 +6,6 @@ use mathlib.Core.Path.{_≡_, sym, _∙_}
 use mathlib.Core.List.{List, List·Memᴰ}
 use mathlib.Core.Logic.{⊎-elim}
 use native.Mathlib.Omega.{arith}
-use lib.Dec.{T}
 use lib.Seq.{ext-getD}
 use lib.IntN.{ℤ}
 use lib.Signed.{mag, ltZ, _≤ℤ_, ≤ℤ-refl}
@@ -16,7 +15,7 @@ use Rattle.plate.specs.Opening.{levelAt, openedAt, opened}
 use Rattle.plate.specs.declared.setting.Setting.{Setting}
 use Rattle.plate.proofs.Keys.{lowest-le}
 use Rattle.theory.proofs.Admission.{admits-by-below}
-use Rattle.theory.proofs.Opening.{Levels, Counts, listed-on, opened-length, levelAt-opened, openedAt-size, opened-levels, opened-below-own, opened-counts-or-lowest, opened-highest}
+use Rattle.theory.proofs.Opening.{Levels, Counts, recounted, counts-along, counts-on, opened-length, levelAt-opened, openedAt-size, opened-levels, opened-below-own, opened-counts-or-lowest, opened-highest}
 
 module _ (s : Setting) (W H : ℕ) (f : List ℤ) (l : Levels f) where
   -- a pixel of a path that counts at t is below t before exactly if it is after
@@ -24,22 +23,13 @@ module _ (s : Setting) (W H : ℕ) (f : List ℤ) (l : Levels f) where
       {x : ℕ} {t : ℤ} → mag t < 32768 → (c : Counts s W H f x t) → (p : ℕ) → List·Memᴰ p (c .path) →
       ltZ (levelAt f p) t ≡ ltZ (levelAt (opened s W H f) p) t
   below-again {t = t} st c p i =
-      let on = listed-on W H (s .directions) (s .length) (c .path) (c .listed) p i in
-      rw (levelAt-opened s W H f p on)
-      (⊎-elim
-      (λ h. lt-ltZ h ∙ sym (lt-ltZ (≤ℤ-<ℤ-trans (opened-below-own s W H f l p) h)))
-      (λ h. le-ltZ h ∙ sym (le-ltZ (opened-highest s W H f l p t st h
-      (record { path = c .path; listed = c .listed; crosses = i; admitted = c .admitted }))))
-      (lt-or-le (levelAt f p) t))
+      rw (levelAt-opened s W H f p (counts-on s W H c p i))
+      (⊎-elim (λ h. lt-ltZ h ∙ sym (lt-ltZ (≤ℤ-<ℤ-trans (opened-below-own s W H f l p) h)))
+      (λ h. le-ltZ h ∙ sym (le-ltZ (opened-highest s W H f l p t st h (counts-along s W H c i)))) (lt-or-le (levelAt f p) t))
 
   counts-again : {x : ℕ} {t : ℤ} → mag t < 32768 → Counts s W H f x t → Counts s W H (opened s W H f) x t
   counts-again {t = t} st c =
-      record {
-        path = c .path;
-        listed = c .listed;
-        crosses = c .crosses;
-        admitted = rw (admits-by-below s f (opened s W H f) t (c .path) (below-again st c)) at (c .admitted);
-      }
+      recounted s W H c (rw (admits-by-below s f (opened s W H f) t (c .path) (below-again st c)) at (c .admitted))
 
   pub openedAt-again : (x : ℕ) → x < W * H → openedAt s W H (opened s W H f) x ≡ openedAt s W H f x
   openedAt-again x h =

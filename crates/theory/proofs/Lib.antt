@@ -6,3 +6,4 @@ pub mod Highest
 pub mod Admission
 pub mod Opening
 pub mod Idempotent
+pub mod Mirror

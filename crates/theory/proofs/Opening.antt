@@ -1,17 +1,17 @@
 -- The laws of the opening. The opened level is characterised by two of them: it is attained by a path that counts, and no level that counts is
 -- above it. Every later proof uses these in place of the definition's text.
-use Prim.Native.Nat.{ℕ, zero, suc, _+_, _*_, _≤_, _<_}
-use mathlib.Core.Path.{_≡_, refl, sym, ap, subst, _∙_}
-use mathlib.Core.Bool.{Bool, true, false, _&&_}
-use mathlib.Core.List.{List, [], _∷_, map, List·Memᴰ, List·Memᴰ·not-nil, List·Memᴰ·cases-cons, List·Memᴰ·eq-of-singleton}
+use Prim.Native.Nat.{ℕ, zero, suc, _*_, _<_}
+use mathlib.Core.Path.{_≡_, sym, ap, subst, _∙_}
+use mathlib.Core.Bool.{false, _&&_}
+use mathlib.Core.List.{List, List·Memᴰ, List·Memᴰ·not-nil, List·Memᴰ·cases-cons, List·Memᴰ·eq-of-singleton}
 use mathlib.Core.Logic.{_⊎_, inl, inr, ⊎-elim}
 use native.Mathlib.Nat.{zero-add}
 use native.Mathlib.Omega.{arith}
 use lib.Dec.{T}
-use lib.ListN.{length, getD, length-map, List·getD-map, List·getD-eq-default}
+use lib.ListN.{length, length-map, List·getD-eq-default}
 use lib.IntN.{ℤ}
-use lib.Signed.{mag, _≤ℤ_, ≤ℤ-refl}
-use Rattle.basics.specs.Lists.{any, upFrom}
+use lib.Signed.{mag, _≤ℤ_}
+use Rattle.basics.specs.Lists.{upFrom}
 use Rattle.basics.proofs.Numbers.{le-or-lt}
 use Rattle.basics.proofs.Tests.{and-both, both-and}
 use Rattle.basics.proofs.Lists.{any-find, any-keep, flatMap-find, upFrom-length, upFrom-at, upFrom-within, map-at}
@@ -19,13 +19,13 @@ use Rattle.basics.proofs.Order.{≤ℤ-trans}
 use Rattle.plate.specs.Levels.{lowest}
 use Rattle.plate.specs.Directions.{chosen}
 use Rattle.plate.specs.Paths.{places, next, pathsFrom, pathsIn, paths, through, crossed}
-use Rattle.plate.specs.Opening.{levelAt, admits, kept, highest, openedAt, opened}
+use Rattle.plate.specs.Opening.{levelAt, admits, kept, openedAt, opened}
 use Rattle.plate.specs.declared.setting.Setting.{Setting}
 use Rattle.plate.proofs.Keys.{lowest-le}
 use Rattle.theory.proofs.Steps.{next-on}
 use Rattle.theory.proofs.Walks.{Walk, Walk.stop, Walk.go, path-walk, through-mem, mem-through}
 use Rattle.theory.proofs.Highest.{highest-size, highest-not-above, highest-passes-or-lowest, passing-not-above-highest}
-use Rattle.theory.proofs.Admission.{admitted-monotone, admitted-lowest}
+use Rattle.theory.proofs.Admission.{admitted-antitone, admitted-monotone, admitted-lowest}
 
 -- every level has 16 bits
 pub record Levels (f : List ℤ) : Type 0 where
@@ -47,7 +47,7 @@ pub record Counts (s : Setting) (W H : ℕ) (f : List ℤ) (x : ℕ) (t : ℤ) :
 
 -- ---- the pixels of a listed path are places of the plate
 
-walk-on : (W H bit : ℕ) {m p : ℕ} {path : List ℕ} → Walk (next W H bit) m p path → p < W * H → (q : ℕ) → List·Memᴰ q path → q < W * H
+pub walk-on : (W H bit : ℕ) {m p : ℕ} {path : List ℕ} → Walk (next W H bit) m p path → p < W * H → (q : ℕ) → List·Memᴰ q path → q < W * H
 walk-on W H bit (stop {p}) h q i = let e : q ≡ p = List·Memᴰ·eq-of-singleton i in omega arith
 walk-on W H bit (go {m} {p} {q = p′} e w) h q i =
     ⊎-elim (λ a. omega arith) (λ j. walk-on W H bit w (next-on W H bit p p′ e .1) q j) (List·Memᴰ·cases-cons i)
@@ -65,6 +65,27 @@ listed-on W H set L path i =
     path-on W H (d .0) L (a .0) path (a .2) (omega (arith, upFrom-within 0 (W * H) (a .0) (a .1) .1))
 
 module _ (s : Setting) (W H : ℕ) where
+  -- ---- paths that count
+
+  -- the same path, in another plate or at another level
+  pub recounted : {f g : List ℤ} {x : ℕ} {t u : ℤ} → (c : Counts s W H f x t) → T (admits s g u (c .path)) → Counts s W H g x u
+  recounted c a = record { path = c .path; listed = c .listed; crosses = c .crosses; admitted = a }
+
+  -- it counts for each of its pixels
+  pub counts-along : {f : List ℤ} {x p : ℕ} {t : ℤ} → (c : Counts s W H f x t) → List·Memᴰ p (c .path) → Counts s W H f p t
+  counts-along c i = record { path = c .path; listed = c .listed; crosses = i; admitted = c .admitted }
+
+  pub counts-on : {f : List ℤ} {x : ℕ} {t : ℤ} → (c : Counts s W H f x t) → (p : ℕ) → List·Memᴰ p (c .path) → p < W * H
+  counts-on c = listed-on W H (s .directions) (s .length) (c .path) (c .listed)
+
+  pub counts-antitone : {f : List ℤ} {x : ℕ} {t u : ℤ} → t ≤ℤ u → Counts s W H f x u → Counts s W H f x t
+  counts-antitone {f} {t = t} {u} h c = recounted c (admitted-antitone s f t u (c .path) h (c .admitted))
+
+  pub counts-monotone :
+      (f g : List ℤ) → ((p : ℕ) → p < W * H → levelAt f p ≤ℤ levelAt g p) → {x : ℕ} {t : ℤ} → Counts s W H f x t → Counts s W H g x t
+  counts-monotone f g h {t = t} c =
+      recounted c (admitted-monotone s f g t (c .path) (λ p i. h p (counts-on c p i)) (c .admitted))
+
   -- ---- the test of the search
 
   pub kept-counts : (f : List ℤ) (x : ℕ) (t : ℤ) → T (kept s (paths W H (s .directions) (s .length)) f x t) → Counts s W H f x t
@@ -134,15 +155,6 @@ module _ (s : Setting) (W H : ℕ) where
       (f g : List ℤ) → Levels f → Levels g → ((p : ℕ) → p < W * H → levelAt f p ≤ℤ levelAt g p) →
       (x : ℕ) → x < W * H → openedAt s W H f x ≤ℤ openedAt s W H g x
   opened-monotone f g lf lg h x hx =
-      ⊎-elim (λ c. opened-highest g lg x (openedAt s W H f x) (openedAt-size f lf x) (≤ℤ-trans (opened-below-own f lf x) (h x hx)) (carried c))
+      ⊎-elim
+      (λ c. opened-highest g lg x (openedAt s W H f x) (openedAt-size f lf x) (≤ℤ-trans (opened-below-own f lf x) (h x hx)) (counts-monotone f g h c))
       (λ e. rw e (lowest-le (openedAt s W H g x) (openedAt-size g lg x))) (opened-counts-or-lowest f x)
-    where
-      carried : {t : ℤ} → Counts s W H f x t → Counts s W H g x t
-      carried {t} c =
-          record {
-            path = c .path;
-            listed = c .listed;
-            crosses = c .crosses;
-            admitted = admitted-monotone s f g t (c .path)
-                (λ p i. h p (listed-on W H (s .directions) (s .length) (c .path) (c .listed) p i)) (c .admitted);
-          }
