@@ -2,3 +2,4 @@ pub mod Numbers
 pub mod Tests
 pub mod Lists
 pub mod Integers
+pub mod Order

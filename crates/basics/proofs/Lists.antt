@@ -157,3 +157,17 @@ zipWith-at f [] ys i a b c h k = absurd (omega arith)
 zipWith-at f (x ∷ xs) [] i a b c h k = absurd (omega arith)
 zipWith-at f (x ∷ xs) (y ∷ ys) zero a b c h k = refl
 zipWith-at f (x ∷ xs) (y ∷ ys) (suc i) a b c h k = zipWith-at f xs ys i a b c (omega arith) (omega arith)
+
+-- what is listed by upFrom lies in its range
+pub upFrom-within : (a n p : ℕ) → List·Memᴰ p (upFrom a n) → (a ≤ p) × (p < a + n)
+unfolding upFrom
+upFrom-within a zero p i = absurd (List·Memᴰ·not-nil i)
+upFrom-within a (suc n) p i =
+    ⊎-elim (λ e. (omega arith, omega arith))
+    (λ j. let r = upFrom-within (suc a) n p j in (omega arith, omega arith)) (List·Memᴰ·cases-cons i)
+
+-- within the list, map acts at each index, whatever stands for what is past the end
+pub map-at : {A B : Type 0} (f : A → B) (xs : List A) (i : ℕ) (a : A) (b : B) → i < length xs → getD (map f xs) i b ≡ f (getD xs i a)
+map-at f [] i a b h = absurd (omega arith)
+map-at f (x ∷ xs) zero a b h = refl
+map-at f (x ∷ xs) (suc i) a b h = map-at f xs i a b (omega arith)

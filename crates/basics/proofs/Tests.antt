@@ -43,3 +43,10 @@ and-both false b h = absurd h
 pub both-and : (a b : Bool) → T a → T b → T (a && b)
 both-and true b h k = k
 both-and false b h k = absurd h
+
+-- two tests that pass together are the same
+pub same-test : (a b : Bool) → (T a → T b) → (T b → T a) → a ≡ b
+same-test true true up down = refl
+same-test true false up down = absurd (up tt)
+same-test false true up down = absurd (down tt)
+same-test false false up down = refl

@@ -6,7 +6,7 @@ use mathlib.Core.Logic.{⊎-elim}
 use native.Mathlib.Omega.{arith}
 use lib.Dec.{ltb}
 use lib.IntN.{ℤ, pos, negsuc, _+ℤ_, _-ℤ_, natAbs}
-use lib.Signed.{mag, ltZ}
+use lib.Signed.{mag, ltZ, leZ, _≤ℤ_, leZ-yes, ltZ-yes, ltZ-no, clashℤ}
 use borrow.Author.Tests.{lt-ltb, le-ltb}
 use mir.Syntax.{w16}
 use mir.Val.{SFits}
@@ -89,3 +89,28 @@ mirror-level n h = ⊎-elim
     (λ k. rw (level-positive n k, mirror-pos (n - 32768), level-negative (65535 - n) (omega arith)) (ap negsuc (omega arith)))
     (λ k. rw (level-negative n k, mirror-negsuc (32767 - n), level-positive (65535 - n) (omega arith)) (ap pos (omega arith)))
     (le-or-lt 32768 n)
+
+-- ---- the order `_≤ℤ_` of levels
+
+pub level-le : (a b : ℕ) → a ≤ b → level a ≤ℤ level b
+level-le a b h = ltZ-no (rw (ltZ-level b a, le-ltb b a h) tt)
+
+pub le-level : (a b : ℕ) → level a ≤ℤ level b → a ≤ b
+le-level a b h =
+    ⊎-elim (λ l. l) (λ l. clashℤ {a = level b} {b = level a} (ltZ-yes (rw (ltZ-level b a, lt-ltb b a l) tt)) h) (le-or-lt a b)
+
+pub key-le : (v w : ℤ) → mag v < 32768 → mag w < 32768 → v ≤ℤ w → key v ≤ key w
+key-le v w sv sw h = le-level (key v) (key w) (rw (level-key v sv, level-key w sw) h)
+
+pub lowest-le : (v : ℤ) → mag v < 32768 → lowest ≤ℤ v
+lowest-le v sv = rw (level-key v sv) at (level-le 0 (key v) (omega arith))
+
+-- the mirror turns the order round
+pub mirror-order : (v w : ℤ) → leZ (mirror w) (mirror v) ≡ leZ v w
+mirror-order (pos m) (pos n) = rw (mirror-pos m, mirror-pos n)
+mirror-order (pos m) (negsuc n) = rw (mirror-pos m, mirror-negsuc n)
+mirror-order (negsuc m) (pos n) = rw (mirror-negsuc m, mirror-pos n)
+mirror-order (negsuc m) (negsuc n) = rw (mirror-negsuc m, mirror-negsuc n)
+
+pub mirror-reverses : {v w : ℤ} → v ≤ℤ w → mirror w ≤ℤ mirror v
+mirror-reverses {v} {w} h = leZ-yes (rw (mirror-order v w) (h .le))

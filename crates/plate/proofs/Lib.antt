@@ -1,4 +1,7 @@
 pub mod StepTable
 pub mod Keys
+pub mod NumberedSteps
 pub mod Sizes
+pub mod WalkerSteps
+pub mod Within
 pub mod CorrectedLevels

@@ -5,7 +5,7 @@ use mathlib.Core.List.{List, [], _∷_, map}
 use lib.Dec.{eqb}
 use lib.ListN.{getD}
 use lib.IntN.{ℤ, pos, negsuc}
-use Rattle.basics.specs.Lists.{keep}
+use Rattle.basics.specs.Lists.{keep, firstOf}
 
 -- a step: the column change and the row change
 pub record Step : Type 0 where
@@ -40,6 +40,10 @@ table =
     ∷ direction 4 (by +1 ±0) (by +1 −1) (by ±0 −1)
     ∷ direction 8 (by +1 ±0) (by +1 +1) (by ±0 +1)
     ∷ []
+
+-- the index in the table, counted from 0, of the direction with this bit; the table's length where there is none
+unfoldable pub indexOf : ℕ → ℕ
+indexOf bit = firstOf (λ d. eqb (d .bit) bit) table
 
 -- the numbered step of the direction that stands at this index of the table, counted from 0; no change where there is none
 unfoldable pub stepAt : ℕ → ℕ → Step

@@ -5,3 +5,4 @@ pub mod Paths
 pub mod Opening
 pub mod Refusals
 pub mod Answers
+pub mod Within

@@ -30,6 +30,7 @@ pub use size::bad_size;
 pub use steps::DIRECTIONS;
 pub use steps::STEPS_EACH;
 pub use steps::column_change;
+pub use steps::index_of;
 pub use steps::row_change;
 pub use walker::Moved;
 pub use walker::Walker;

@@ -1,5 +1,5 @@
 ghost use mathlib.Core.Path.{_≡_};
-ghost use Rattle.plate.specs.Directions.{stepAt};
+ghost use Rattle.plate.specs.Directions.{indexOf, stepAt};
 
 // The step table of document 01, section 2: for each direction (document 01: way) three steps, each
 // a column change and a row change.
@@ -13,6 +13,19 @@ const STEPS: [[[i8; 2]; 3]; 4] = [
 pub const DIRECTIONS: usize = 4;
 
 pub const STEPS_EACH: usize = 3;
+
+// The table's index of the direction with this bit, and past the table where there is none.
+pub fn index_of(direction: usize) -> usize
+    ensures { λ r. ⌜ r ≡ indexOf direction ⌝ }
+{
+    match direction {
+        1 => 0,
+        2 => 1,
+        4 => 2,
+        8 => 3,
+        _ => DIRECTIONS,
+    }
+}
 
 // The column change of a numbered step of the direction with this index; 0 past the table.
 pub fn column_change(index: usize, number: usize) -> i8
