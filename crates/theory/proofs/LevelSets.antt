@@ -1,6 +1,6 @@
--- Walks by level sets: the recursion that the engine computes, over keys, finds just the walks that are there. 'Some walk counts at t' is one
--- number a pixel (`reach`), since a walk that counts at a key counts at every lower one. Over any function `next` and any keys; 0 also stands
--- for 'no walk'.
+-- Walks by level sets: the recursion that the engine computes, formula (3) of source 001 taken on keys, finds just the walks that are there.
+-- 'Some walk counts at t' is one number a pixel, `reach`, since a walk that counts at a key counts at every lower one; 0 also stands for 'no walk'.
+-- Over any function `next`, forwards or backwards, and any keys of 16 bits.
 use Prim.Native.Nat.{ℕ, zero, suc, _+_, _≤_, _<_, min, max}
 use mathlib.Core.Path.{_≡_, refl, ap}
 use mathlib.Core.Bool.{cond}
@@ -82,6 +82,11 @@ best-least g b (q ∷ qs) h =
 pub best-mono : (g h : ℕ → ℕ) → ((q : ℕ) → g q ≤ h q) → (qs : List ℕ) → best g qs ≤ best h qs
 best-mono g h le qs = best-least g (best h qs) qs (λ q i. best-keep h (g q) q i (le q))
 
+pub best-same : (g h : ℕ → ℕ) (qs : List ℕ) → ((q : ℕ) → List·Memᴰ q qs → g q ≡ h q) → best g qs ≡ best h qs
+unfolding best
+best-same g h [] same = refl
+best-same g h (q ∷ qs) same = rw (same q (List·Memᴰ·head refl), best-same g h qs (λ r i. same r (List·Memᴰ·tail i)))
+
 fewer-find : (g : ℕ → ℕ) (t j : ℕ) → 1 ≤ t → t ≤ fewer g j → (i : ℕ) × (j ≡ suc i) × (t ≤ g i)
 unfolding fewer
 fewer-find g t zero positive h = absurd (omega arith)
@@ -135,9 +140,8 @@ module _ (next : ℕ → List ℕ) (g : ℕ → ℕ) (t : ℕ) where
   pub good-reach : t ≤ 65535 → (m j p : ℕ) → Good next g t m j p → t ≤ reach next g m j p
   good-reach small m j p w = walk-reach small (w .walk) j (w .few)
 
--- ---- for a program that computes it
+-- ---- for a program that computes it: the recursion step by step, and what need not be visited
 
--- the recursion, step by step
 module _ (next : ℕ → List ℕ) (g : ℕ → ℕ) where
   pub reach-start : (p : ℕ) → reach next g 0 0 p ≡ g p
   unfolding reach alone
@@ -147,11 +151,12 @@ module _ (next : ℕ → List ℕ) (g : ℕ → ℕ) where
   unfolding reach alone
   reach-start-gap j p = refl
 
-  pub reach-step : (m j p : ℕ) → reach next g (suc m) j p ≡ max (min (g p) (best (reach next g m j) (next p))) (fewer (λ i. best (reach next g m i) (next p)) j)
+  pub reach-step : (m j p : ℕ) →
+      reach next g (suc m) j p ≡ max (min (g p) (best (reach next g m j) (next p))) (fewer (λ i. best (reach next g m i) (next p)) j)
   unfolding reach
   reach-step m j p = refl
 
-  -- where no walk of m steps starts, all its planes are 0 and need not be visited
+  -- where no walk of m steps starts it is 0, whatever the gaps
   pub reach-none : (m j p : ℕ) → ((ps : List ℕ) → Walk next m p ps → ⊥) → reach next g m j p ≡ 0
   reach-none m j p none = known-below (reach next g m j p) 0
       (λ t positive h. let w = reach-good next g t positive m j p h in absurd (none (w .pixels) (w .walk)))
@@ -178,3 +183,20 @@ module _ (next : ℕ → List ℕ) (g : ℕ → ℕ) where
           best-mono (reach next g m j) (reach next g m (suc j)) (reach-more-gaps m j) (next p),
           best-mono (reach next g m (suc j)) (reach next g m (suc (suc j))) (reach-more-gaps m (suc j)) (next p),
         )
+
+-- reach is known by the keys of the places below n, where no step leads elsewhere
+module _ (next : ℕ → List ℕ) (g h : ℕ → ℕ) (n : ℕ)
+    (stays : (p q : ℕ) → List·Memᴰ q (next p) → q < n) (same : (p : ℕ) → p < n → g p ≡ h p) where
+  pub reach-same : (m j p : ℕ) → p < n → reach next g m j p ≡ reach next h m j p
+  unfolding reach alone fewer
+  reach-same zero zero p l = same p l
+  reach-same zero (suc j) p l = refl
+  reach-same (suc m) zero p l =
+      omega (arith, same p l, best-same (reach next g m 0) (reach next h m 0) (next p) (λ q i. reach-same m 0 q (stays p q i)))
+  reach-same (suc m) (suc j) p l =
+      omega (
+        arith,
+        same p l,
+        best-same (reach next g m j) (reach next h m j) (next p) (λ q i. reach-same m j q (stays p q i)),
+        best-same (reach next g m (suc j)) (reach next h m (suc j)) (next p) (λ q i. reach-same m (suc j) q (stays p q i)),
+      )

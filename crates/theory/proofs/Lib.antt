@@ -4,3 +4,5 @@ pub mod Steps
 pub mod Reversal
 pub mod LevelSets
 pub mod Splitting
+pub mod Decomposition
+pub mod Terms

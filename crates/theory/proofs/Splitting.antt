@@ -1,12 +1,12 @@
 -- A walk through x splits at x into one that ends there, walked backwards, and one that starts there; and two such walks join. The pixel x is in
 -- both parts, and where t ≤ g x it is low in neither, so that the counts add up. Pixels are moved from one walk to the other until x stands at
 -- the cut: no list is reversed and none appended.
-use Prim.Native.Nat.{ℕ, zero, suc, _+_, _-_, _≤_}
-use mathlib.Core.Path.{_≡_, refl, sym, subst}
-use mathlib.Core.List.{List, [], _∷_, List·Memᴰ, List·Memᴰ·head, List·Memᴰ·tail}
+use Prim.Native.Nat.{ℕ, _+_, _-_, _≤_}
+use mathlib.Core.Path.{_≡_, sym, subst}
+use mathlib.Core.List.{List, List·Memᴰ, List·Memᴰ·head, List·Memᴰ·tail}
 use native.Mathlib.Omega.{arith}
 use Rattle.theory.proofs.Walks.{Walk, Walk.stop, Walk.go, walk-first}
-use Rattle.theory.proofs.LevelSets.{under, under-high, lowPixels, reach, Good, reach-good, good-reach}
+use Rattle.theory.proofs.LevelSets.{under, under-high, lowPixels, reach, reach-good, good-reach}
 
 -- some walk of m steps goes through x and has at most k pixels below t
 pub record Crossing (next : ℕ → List ℕ) (g : ℕ → ℕ) (t m k x : ℕ) : Type 0 where
