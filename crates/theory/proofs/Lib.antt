@@ -7,3 +7,7 @@ pub mod Admission
 pub mod Opening
 pub mod Idempotent
 pub mod Mirror
+pub mod LevelSets
+pub mod Splitting
+pub mod Decomposition
+pub mod Terms

@@ -1,0 +1,202 @@
+-- Walks by level sets: the recursion that the engine computes, formula (3) of source 001 taken on keys, finds just the walks that are there.
+-- 'Some walk counts at t' is one number a pixel, `reach`, since a walk that counts at a key counts at every lower one; 0 also stands for 'no walk'.
+-- Over any function `next`, forwards or backwards, and any keys of 16 bits.
+use Prim.Native.Nat.{ℕ, zero, suc, _+_, _≤_, _<_, min, max}
+use mathlib.Core.Path.{_≡_, refl, ap}
+use mathlib.Core.Bool.{cond}
+use mathlib.Core.List.{List, [], _∷_, List·Memᴰ, List·Memᴰ·head, List·Memᴰ·tail}
+use mathlib.Core.Logic.{⊎-elim}
+use native.Mathlib.Omega.{arith}
+use lib.Dec.{ltb}
+use borrow.Author.Tests.{lt-ltb, le-ltb}
+use Rattle.basics.proofs.Numbers.{le-or-lt, le-max-split, known-below}
+use Rattle.theory.proofs.Walks.{Walk, Walk.stop, Walk.go}
+
+-- 1 where the key a is below t
+unfoldable pub under : ℕ → ℕ → ℕ
+under t a = cond (ltb a t) 1 0
+
+-- how many pixels of a path have a key below t
+unfoldable pub lowPixels : (ℕ → ℕ) → ℕ → List ℕ → ℕ
+lowPixels g t [] = 0
+lowPixels g t (p ∷ path) = under t (g p) + lowPixels g t path
+
+-- the greatest of g over some places, 0 where there is none
+unfoldable pub best : (ℕ → ℕ) → List ℕ → ℕ
+best g [] = 0
+best g (q ∷ qs) = max (g q) (best g qs)
+
+-- g at one gap fewer, 0 where there is none to spend
+unfoldable pub fewer : (ℕ → ℕ) → ℕ → ℕ
+fewer g zero = 0
+fewer g (suc j) = g j
+
+-- the highest key at which a single pixel of key a counts: its own, or any where it may be a gap
+unfoldable pub alone : ℕ → ℕ → ℕ
+alone a zero = a
+alone a (suc j) = 65535
+
+-- the highest key t at which a walk of m steps from p has at most j pixels below t: the first pixel is at least t, or it is a gap
+unfoldable pub reach : (ℕ → List ℕ) → (ℕ → ℕ) → ℕ → ℕ → ℕ → ℕ
+reach next g zero j p = alone (g p) j
+reach next g (suc m) j p = max (min (g p) (best (reach next g m j) (next p))) (fewer (λ i. best (reach next g m i) (next p)) j)
+
+-- some walk of m steps from p has at most j pixels below t
+pub record Good (next : ℕ → List ℕ) (g : ℕ → ℕ) (t m j p : ℕ) : Type 0 where
+  pub pixels : List ℕ
+  pub walk : Walk next m p pixels
+  pub few : lowPixels g t pixels ≤ j
+
+-- ---- laws of the parts
+
+pub under-low : (t a : ℕ) → a < t → under t a ≡ 1
+unfolding under
+under-low t a h = rw (lt-ltb a t h)
+
+pub under-high : (t a : ℕ) → t ≤ a → under t a ≡ 0
+unfolding under
+under-high t a h = rw (le-ltb a t h)
+
+pub under-le-one : (t a : ℕ) → under t a ≤ 1
+under-le-one t a = ⊎-elim (λ h. omega (arith, under-high t a h)) (λ h. omega (arith, under-low t a h)) (le-or-lt t a)
+
+pub best-find : (g : ℕ → ℕ) (t : ℕ) (qs : List ℕ) → 1 ≤ t → t ≤ best g qs → (q : ℕ) × List·Memᴰ q qs × (t ≤ g q)
+unfolding best
+best-find g t [] positive h = absurd (omega arith)
+best-find g t (q ∷ qs) positive h =
+    ⊎-elim (λ a. (q, List·Memᴰ·head refl, a))
+    (λ b. let r = best-find g t qs positive b in (r .0, List·Memᴰ·tail (r .1), r .2))
+    (le-max-split t (g q) (best g qs) h)
+
+pub best-keep : (g : ℕ → ℕ) (t q : ℕ) {qs : List ℕ} → List·Memᴰ q qs → t ≤ g q → t ≤ best g qs
+unfolding best
+best-keep g t q (List·Memᴰ·head e) h = omega (arith, ap g e)
+best-keep g t q (List·Memᴰ·tail i) h = omega (arith, best-keep g t q i h)
+
+pub best-least : (g : ℕ → ℕ) (b : ℕ) (qs : List ℕ) → ((q : ℕ) → List·Memᴰ q qs → g q ≤ b) → best g qs ≤ b
+unfolding best
+best-least g b [] h = omega arith
+best-least g b (q ∷ qs) h =
+    omega (arith, h q (List·Memᴰ·head refl), best-least g b qs (λ r i. h r (List·Memᴰ·tail i)))
+
+pub best-mono : (g h : ℕ → ℕ) → ((q : ℕ) → g q ≤ h q) → (qs : List ℕ) → best g qs ≤ best h qs
+best-mono g h le qs = best-least g (best h qs) qs (λ q i. best-keep h (g q) q i (le q))
+
+pub best-same : (g h : ℕ → ℕ) (qs : List ℕ) → ((q : ℕ) → List·Memᴰ q qs → g q ≡ h q) → best g qs ≡ best h qs
+unfolding best
+best-same g h [] same = refl
+best-same g h (q ∷ qs) same = rw (same q (List·Memᴰ·head refl), best-same g h qs (λ r i. same r (List·Memᴰ·tail i)))
+
+fewer-find : (g : ℕ → ℕ) (t j : ℕ) → 1 ≤ t → t ≤ fewer g j → (i : ℕ) × (j ≡ suc i) × (t ≤ g i)
+unfolding fewer
+fewer-find g t zero positive h = absurd (omega arith)
+fewer-find g t (suc j) positive h = (j, refl, h)
+
+-- ---- the two lemmas
+
+-- For 1 ≤ t ≤ 65535: t ≤ reach m j p exactly when some walk of m steps from p has at most j pixels below t. By induction on m. A walk of no step
+-- is the pixel p alone: it has no pixel below t just when t ≤ g p, and at most one always. A walk of m + 1 steps is p and a walk of m steps from
+-- some q of `next p`. If t ≤ g p, the rest has at most j pixels below t: t is at most both g p and the best reach of m steps with j gaps. If not,
+-- p is a gap and the rest has at most j − 1: t is at most the best reach with one gap fewer. Conversely each of the two bounds gives a q and its
+-- walk, and p is put before it: with its key at least t in the first case, and with whatever key in the second.
+module _ (next : ℕ → List ℕ) (g : ℕ → ℕ) (t : ℕ) where
+  before-high : {m j p q : ℕ} → t ≤ g p → List·Memᴰ q (next p) → Good next g t m j q → Good next g t (suc m) j p
+  unfolding lowPixels
+  before-high {p = p} h e w = record { pixels = p ∷ w .pixels; walk = go e (w .walk); few = omega (arith, under-high t (g p) h) }
+
+  before-any : {m i j p q : ℕ} → j ≡ suc i → List·Memᴰ q (next p) → Good next g t m i q → Good next g t (suc m) j p
+  unfolding lowPixels
+  before-any {p = p} s e w = record { pixels = p ∷ w .pixels; walk = go e (w .walk); few = omega (arith, under-le-one t (g p)) }
+
+  pub reach-good : 1 ≤ t → (m j p : ℕ) → t ≤ reach next g m j p → Good next g t m j p
+  unfolding reach lowPixels alone
+  reach-good positive zero zero p h = record { pixels = p ∷ []; walk = stop; few = omega (arith, under-high t (g p) h) }
+  reach-good positive zero (suc j) p h = record { pixels = p ∷ []; walk = stop; few = omega (arith, under-le-one t (g p)) }
+  reach-good positive (suc m) j p h =
+      ⊎-elim
+      (λ a. let r = best-find (reach next g m j) t (next p) positive (omega arith) in
+      before-high (omega arith) (r .1) (reach-good positive m j (r .0) (r .2)))
+      (λ b. let s = fewer-find (λ i. best (reach next g m i) (next p)) t j positive b in
+      let r = best-find (reach next g m (s .0)) t (next p) positive (s .2) in
+      before-any (s .1) (r .1) (reach-good positive m (s .0) (r .0) (r .2)))
+      (le-max-split t _ _ h)
+
+  walk-reach : t ≤ 65535 → {m p : ℕ} {ps : List ℕ} → Walk next m p ps → (j : ℕ) → lowPixels g t ps ≤ j → t ≤ reach next g m j p
+  unfolding reach lowPixels alone fewer
+  walk-reach small (stop {p}) zero h =
+      ⊎-elim (λ a. a) (λ b. absurd (omega (arith, under-low t (g p) b))) (le-or-lt t (g p))
+  walk-reach small stop (suc j) h = small
+  walk-reach small (go {m} {p} {q} {ps} e w) zero h =
+      ⊎-elim
+      (λ a. omega (arith, best-keep (reach next g m zero) t q e (walk-reach small w zero (omega (arith, under-high t (g p) a)))))
+      (λ b. absurd (omega (arith, under-low t (g p) b)))
+      (le-or-lt t (g p))
+  walk-reach small (go {m} {p} {q} {ps} e w) (suc j) h =
+      ⊎-elim
+      (λ a. omega (arith, best-keep (reach next g m (suc j)) t q e (walk-reach small w (suc j) (omega (arith, under-high t (g p) a)))))
+      (λ b. omega (arith, best-keep (reach next g m j) t q e (walk-reach small w j (omega (arith, under-low t (g p) b)))))
+      (le-or-lt t (g p))
+
+  pub good-reach : t ≤ 65535 → (m j p : ℕ) → Good next g t m j p → t ≤ reach next g m j p
+  good-reach small m j p w = walk-reach small (w .walk) j (w .few)
+
+-- ---- for a program that computes it: the recursion step by step, and what need not be visited
+
+module _ (next : ℕ → List ℕ) (g : ℕ → ℕ) where
+  pub reach-start : (p : ℕ) → reach next g 0 0 p ≡ g p
+  unfolding reach alone
+  reach-start p = refl
+
+  pub reach-start-gap : (j p : ℕ) → reach next g 0 (suc j) p ≡ 65535
+  unfolding reach alone
+  reach-start-gap j p = refl
+
+  pub reach-step : (m j p : ℕ) →
+      reach next g (suc m) j p ≡ max (min (g p) (best (reach next g m j) (next p))) (fewer (λ i. best (reach next g m i) (next p)) j)
+  unfolding reach
+  reach-step m j p = refl
+
+  -- where no walk of m steps starts it is 0, whatever the gaps
+  pub reach-none : (m j p : ℕ) → ((ps : List ℕ) → Walk next m p ps → ⊥) → reach next g m j p ≡ 0
+  reach-none m j p none = known-below (reach next g m j p) 0
+      (λ t positive h. let w = reach-good next g t positive m j p h in absurd (none (w .pixels) (w .walk)))
+      (λ t positive h. omega arith)
+
+  module _ (bounded : (p : ℕ) → g p ≤ 65535) where
+    pub reach-bound : (m j p : ℕ) → reach next g m j p ≤ 65535
+    unfolding reach alone fewer
+    reach-bound zero zero p = bounded p
+    reach-bound zero (suc j) p = omega arith
+    reach-bound (suc m) zero p = omega (arith, bounded p)
+    reach-bound (suc m) (suc j) p =
+        omega (arith, bounded p, best-least (reach next g m j) 65535 (next p) (λ q i. reach-bound m j q))
+
+    -- one more gap never lowers it
+    pub reach-more-gaps : (m j p : ℕ) → reach next g m j p ≤ reach next g m (suc j) p
+    unfolding reach alone fewer
+    reach-more-gaps zero zero p = bounded p
+    reach-more-gaps zero (suc j) p = omega arith
+    reach-more-gaps (suc m) zero p = omega (arith, best-mono (reach next g m 0) (reach next g m 1) (reach-more-gaps m 0) (next p))
+    reach-more-gaps (suc m) (suc j) p =
+        omega (
+          arith,
+          best-mono (reach next g m j) (reach next g m (suc j)) (reach-more-gaps m j) (next p),
+          best-mono (reach next g m (suc j)) (reach next g m (suc (suc j))) (reach-more-gaps m (suc j)) (next p),
+        )
+
+-- reach is known by the keys of the places below n, where no step leads elsewhere
+module _ (next : ℕ → List ℕ) (g h : ℕ → ℕ) (n : ℕ)
+    (stays : (p q : ℕ) → List·Memᴰ q (next p) → q < n) (same : (p : ℕ) → p < n → g p ≡ h p) where
+  pub reach-same : (m j p : ℕ) → p < n → reach next g m j p ≡ reach next h m j p
+  unfolding reach alone fewer
+  reach-same zero zero p l = same p l
+  reach-same zero (suc j) p l = refl
+  reach-same (suc m) zero p l =
+      omega (arith, same p l, best-same (reach next g m 0) (reach next h m 0) (next p) (λ q i. reach-same m 0 q (stays p q i)))
+  reach-same (suc m) (suc j) p l =
+      omega (
+        arith,
+        same p l,
+        best-same (reach next g m j) (reach next h m j) (next p) (λ q i. reach-same m j q (stays p q i)),
+        best-same (reach next g m (suc j)) (reach next h m (suc j)) (next p) (λ q i. reach-same m (suc j) q (stays p q i)),
+      )
