@@ -7,7 +7,7 @@ use Rattle.plate.specs.Levels.{mirror}
 use Rattle.plate.specs.Directions.{table, stepsIn, steps, member, chosen}
 use Rattle.plate.specs.Paths.{places, placeAt, stepFrom, arrivals, reachedBy, next, pathsFrom, pathsIn, paths, through, crossed}
 use Rattle.plate.specs.Opening.{below, admits, kept, greatest, highest, openedAt, opened, closed, filtered}
-use Rattle.plate.specs.Refusals.{Verdict.refused, judged, badSize, traceVerdict}
+use Rattle.plate.specs.Refusals.{Verdict.refused, judged, badSize, badLength, badGaps, badDirections, badMode, traceVerdict}
 use Rattle.theory.specs.WorkedPlates.{workedPlates, sameLevel, same, allHold, tracedP2}
 
 pub worked-plates-hold : T (allHold workedPlates)
@@ -15,5 +15,5 @@ unfolding workedPlates sameLevel same allHold flatMap any keep upFrom mirror tab
 worked-plates-hold = tt
 
 pub P2-trace-refused : tracedP2 ≡ refused 12 0
-unfolding tracedP2 traceVerdict judged badSize crossed flatMap any keep upFrom table stepsIn steps member chosen places placeAt stepFrom arrivals reachedBy next pathsFrom pathsIn paths through
+unfolding tracedP2 traceVerdict judged badSize badLength badGaps badDirections badMode crossed flatMap any keep upFrom table stepsIn steps member chosen places placeAt stepFrom arrivals reachedBy next pathsFrom pathsIn paths through
 P2-trace-refused = refl
