@@ -2,7 +2,7 @@
 use Prim.Native.Nat.{ℕ, zero, suc, _+_, _-_, _≤_, _<_}
 use mathlib.Core.Path.{_≡_, refl, sym, ap, subst, _∙_}
 use mathlib.Core.Bool.{Bool, true, false, cond, _||_}
-use mathlib.Core.List.{List, [], _∷_, _++_, map, flatMap, append-nil, List·Memᴰ, List·Memᴰ·head, List·Memᴰ·tail, List·Memᴰ·cases-cons, List·Memᴰ·not-nil, List·Memᴰ·append-cases, Memᴰ·append-left, Memᴰ·append-right}
+use mathlib.Core.List.{List, [], _∷_, _++_, map, flatMap, reverseAux, append-nil, List·Memᴰ, List·Memᴰ·head, List·Memᴰ·tail, List·Memᴰ·cases-cons, List·Memᴰ·not-nil, List·Memᴰ·append-cases, Memᴰ·append-left, Memᴰ·append-right}
 use mathlib.Core.Logic.{_⊎_, inl, inr, ⊎-elim, by-cases}
 use native.Mathlib.Decide.{decLe}
 use native.Mathlib.Numerals.{add-one}
@@ -142,3 +142,21 @@ filled-more new old i d h k =
 
 pub filled-all : {A : Type 0} (new old : List A) (i : ℕ) → length new ≤ i → length old ≤ i → take i new ++ drop i old ≡ new
 filled-all new old i h k = rw (take-all i new h, drop-of-length-le old k) (append-nil new)
+
+-- ---- what upFrom lists is in its range
+
+pub upFrom-find : (a n p : ℕ) → List·Memᴰ p (upFrom a n) → (a ≤ p) × (p < a + n)
+unfolding upFrom
+upFrom-find a zero p i = absurd (List·Memᴰ·not-nil i)
+upFrom-find a (suc n) p i =
+    ⊎-elim (λ e. (omega arith, omega arith)) (λ j. let r = upFrom-find (suc a) n p j in (omega arith, omega arith)) (List·Memᴰ·cases-cons i)
+
+-- ---- reverseAux: the first list in reverse, then the second, and no element lost
+
+pub reverseAux-right : {A : Type 0} {x : A} (xs : List A) {ys : List A} → List·Memᴰ x ys → List·Memᴰ x (reverseAux xs ys)
+reverseAux-right [] i = i
+reverseAux-right (y ∷ xs) i = reverseAux-right xs (List·Memᴰ·tail i)
+
+pub reverseAux-left : {A : Type 0} {x : A} {xs : List A} (ys : List A) → List·Memᴰ x xs → List·Memᴰ x (reverseAux xs ys)
+reverseAux-left ys (List·Memᴰ·head {xs} e) = reverseAux-right xs (List·Memᴰ·head e)
+reverseAux-left ys (List·Memᴰ·tail {x = y} i) = reverseAux-left (y ∷ ys) i

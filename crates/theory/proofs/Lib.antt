@@ -1,4 +1,6 @@
 pub mod WorkedPlates
 pub mod Walks
+pub mod Splitting
 pub mod Steps
+pub mod Listed
 pub mod Reversal

@@ -2,16 +2,19 @@
 -- column and the row back; a walk turns round step by step.
 use Prim.Native.Nat.{ℕ, zero, suc, _+_, _*_, _/_, _%_, _≤_, _<_}
 use mathlib.Core.Path.{_≡_, refl, sym, ap, _∙_}
-use mathlib.Core.List.{List, [], _∷_, map, List·Memᴰ}
+use mathlib.Core.List.{List, [], _∷_, map, reverse, List·Memᴰ}
 use native.Mathlib.Nat.{div-add-mod', mod-lt, div-lt-iff-lt-mul}
 use native.Mathlib.Omega.{arith}
 use lib.Arith.{digits-div, digits-mod}
 use lib.IntN.{ℤ, pos, _+ℤ_, negℤ, negℤ-negℤ, +ℤ-negℤ-cancel}
 use borrow.Author.Tests.{lt-ltb}
-use Rattle.basics.proofs.Lists.{map-keep}
+use Rattle.basics.proofs.Lists.{map-keep, reverseAux-left}
 use Rattle.plate.specs.Directions.{Step, steps}
-use Rattle.plate.specs.Paths.{Reached.at, stepFrom, reachedBy, next}
+use Rattle.plate.specs.Paths.{Reached.at, stepFrom, reachedBy, next, pathsIn}
+use Rattle.theory.proofs.Walks.{Walk, WalkOf, walk-first}
+use Rattle.theory.proofs.Splitting.{reversed}
 use Rattle.theory.proofs.Steps.{Landed, lands, stepped, landed-on, reached-find, reached-keep}
+use Rattle.theory.proofs.Listed.{listed-walk, walk-listed, walk-started}
 
 unfoldable pub minus : Step → Step
 minus s = record { column = negℤ (s .column); row = negℤ (s .row) }
@@ -54,3 +57,21 @@ turn W H bit p q i = turn-by W H (steps bit) p q i
 pub turn-back : (W H bit p q : ℕ) → List·Memᴰ q (back W H bit p) → List·Memᴰ p (next W H bit q)
 unfolding next back
 turn-back W H bit p q i = rw (all-minus (steps bit)) at (turn-by W H (map minus (steps bit)) p q i)
+
+-- ---- whole paths: a path walked backwards, from its last pixel to its first, is a path of the negated steps
+
+module _ (W H bit : ℕ) where
+  pub walk-reversed : {m p : ℕ} {ps : List ℕ} → Walk (next W H bit) m p ps → WalkOf (back W H bit) m (reverse ps)
+  walk-reversed w = reversed (next W H bit) (back W H bit) (turn W H bit) w
+
+  pub back-reversed : {m p : ℕ} {ps : List ℕ} → Walk (back W H bit) m p ps → WalkOf (next W H bit) m (reverse ps)
+  back-reversed w = reversed (back W H bit) (next W H bit) (turn-back W H bit) w
+
+  -- the same of the listed paths
+  pub path-reversed : (m : ℕ) (ps : List ℕ) → List·Memᴰ ps (pathsIn W H (suc m) bit) → WalkOf (back W H bit) m (reverse ps)
+  path-reversed m ps i = walk-reversed (listed-walk W H bit m ps i .walk)
+
+  pub reversed-path : {m p : ℕ} {ps : List ℕ} → p < W * H → Walk (back W H bit) m p ps → List·Memᴰ (reverse ps) (pathsIn W H (suc m) bit)
+  reversed-path h w =
+      let v = back-reversed w in
+      walk-listed W H bit (walk-started W H bit (v .walk) (reverseAux-left [] (walk-first w)) h) (v .walk)

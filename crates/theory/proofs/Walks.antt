@@ -2,7 +2,7 @@
 -- by induction on it. It is stated over any function that gives the next places, forwards or backwards.
 use Prim.Native.Nat.{ℕ, zero, suc, _+_, _*_, _<_}
 use mathlib.Core.Path.{_≡_, refl, sym, ap, subst}
-use mathlib.Core.List.{List, [], _∷_, map, flatMap, List·Memᴰ, List·Memᴰ·head, List·Memᴰ·tail, List·Memᴰ·eq-of-singleton}
+use mathlib.Core.List.{List, [], _∷_, tail, map, flatMap, List·Memᴰ, List·Memᴰ·head, List·Memᴰ·tail, List·Memᴰ·eq-of-singleton}
 use native.Mathlib.Omega.{arith}
 use lib.Dec.{T, eqb, eqb→eq, eqb-refl}
 use lib.ListN.{length}
@@ -15,6 +15,15 @@ pub data Walk (next : ℕ → List ℕ) : ℕ → ℕ → List ℕ → Type 0 wh
   stop : {p : ℕ} → Walk next zero p (p ∷ [])
   go : {m p q : ℕ} {ps : List ℕ} → List·Memᴰ q (next p) → Walk next m q ps → Walk next (suc m) p (p ∷ ps)
 
+-- a walk of m steps that has the pixels ps, from wherever it starts; and one that starts at p, over whatever pixels it goes
+pub record WalkOf (next : ℕ → List ℕ) (m : ℕ) (ps : List ℕ) : Type 0 where
+  pub start : ℕ
+  pub walk : Walk next m start ps
+
+pub record WalkFrom (next : ℕ → List ℕ) (m p : ℕ) : Type 0 where
+  pub pixels : List ℕ
+  pub walk : Walk next m p pixels
+
 pub walk-length : {next : ℕ → List ℕ} {m p : ℕ} {ps : List ℕ} → Walk next m p ps → length ps ≡ suc m
 walk-length stop = refl
 walk-length (go e w) = ap suc (walk-length w)
@@ -23,6 +32,10 @@ walk-length (go e w) = ap suc (walk-length w)
 pub walk-first : {next : ℕ → List ℕ} {m p : ℕ} {ps : List ℕ} → Walk next m p ps → List·Memᴰ p ps
 walk-first stop = List·Memᴰ·head refl
 walk-first (go e w) = List·Memᴰ·head refl
+
+pub walk-starts : {next : ℕ → List ℕ} {m p : ℕ} {ps : List ℕ} → Walk next m p ps → ps ≡ p ∷ tail ps
+walk-starts stop = refl
+walk-starts (go e w) = refl
 
 -- the listed paths of L pixels are the walks of L − 1 steps
 module _ (W H bit : ℕ) where
