@@ -4,3 +4,4 @@ pub mod Splitting
 pub mod Steps
 pub mod Listed
 pub mod Reversal
+pub mod Shorter
