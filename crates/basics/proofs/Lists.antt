@@ -160,3 +160,9 @@ reverseAux-right (y ∷ xs) i = reverseAux-right xs (List·Memᴰ·tail i)
 pub reverseAux-left : {A : Type 0} {x : A} {xs : List A} (ys : List A) → List·Memᴰ x xs → List·Memᴰ x (reverseAux xs ys)
 reverseAux-left ys (List·Memᴰ·head {xs} e) = reverseAux-right xs (List·Memᴰ·head e)
 reverseAux-left ys (List·Memᴰ·tail {x = y} i) = reverseAux-left (y ∷ ys) i
+
+-- an element of a list of three is one of them
+pub one-of-three : {A : Type 0} (P : A → Type 0) {a b c x : A} → P a → P b → P c → List·Memᴰ x (a ∷ b ∷ c ∷ []) → P x
+one-of-three P u v w (List·Memᴰ·head e) = rw e u
+one-of-three P u v w (List·Memᴰ·tail (List·Memᴰ·head e)) = rw e v
+one-of-three P u v w (List·Memᴰ·tail (List·Memᴰ·tail (List·Memᴰ·head e))) = rw e w

@@ -43,3 +43,10 @@ and-both false b h = absurd h
 pub both-and : (a b : Bool) → T a → T b → T (a && b)
 both-and true b h k = k
 both-and false b h k = absurd h
+
+-- two tests that pass together are the same
+pub T-same : (a b : Bool) → (T a → T b) → (T b → T a) → a ≡ b
+T-same true true f g = refl
+T-same true false f g = absurd (f tt)
+T-same false true f g = absurd (g tt)
+T-same false false f g = refl

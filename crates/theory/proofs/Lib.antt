@@ -5,3 +5,6 @@ pub mod Steps
 pub mod Listed
 pub mod Reversal
 pub mod Shorter
+pub mod Moves
+pub mod Ranks
+pub mod Span

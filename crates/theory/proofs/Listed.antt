@@ -1,7 +1,7 @@
 -- The listed paths of L pixels are the walks of L − 1 steps that start on the plate. A walk leaves the plate at none of its pixels, so one pixel on
 -- the plate is enough.
-use Prim.Native.Nat.{ℕ, zero, suc, _+_, _*_, _≤_, _<_}
-use mathlib.Core.Path.{_≡_, refl, sym, subst}
+use Prim.Native.Nat.{ℕ, suc, _*_, _<_}
+use mathlib.Core.Path.{_≡_}
 use mathlib.Core.List.{List, List·Memᴰ, List·Memᴰ·head, List·Memᴰ·tail, List·Memᴰ·eq-of-singleton}
 use native.Mathlib.Omega.{arith}
 use Rattle.basics.proofs.Lists.{flatMap-find, flatMap-keep, upFrom-find, upFrom-has}

@@ -1,7 +1,7 @@
 -- A walk through x is two walks that meet at x: one over `back` that leads from x to where the walk starts, and one over `next` from x on. The
 -- pixels of the first in reverse, x once, then those of the second are the pixels of the whole: `reverseAux (tail came) goes`. Pixel after pixel
 -- is moved from one of the two walks to the other, and each step turned round.
-use Prim.Native.Nat.{ℕ, zero, suc, _+_}
+use Prim.Native.Nat.{ℕ, _+_}
 use mathlib.Core.Path.{_≡_, refl, sym, subst, _∙_}
 use mathlib.Core.List.{List, [], _∷_, tail, reverse, reverseAux, List·Memᴰ, List·Memᴰ·head, List·Memᴰ·tail}
 use native.Mathlib.Omega.{arith}
