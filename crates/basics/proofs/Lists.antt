@@ -2,7 +2,7 @@
 use Prim.Native.Nat.{ℕ, zero, suc, _+_, _-_, _≤_, _<_}
 use mathlib.Core.Path.{_≡_, refl, sym, ap, subst, _∙_}
 use mathlib.Core.Bool.{Bool, true, false, cond, _||_}
-use mathlib.Core.List.{List, [], _∷_, _++_, map, flatMap, zipWith, append-nil, List·Memᴰ, List·Memᴰ·head, List·Memᴰ·tail, List·Memᴰ·cases-cons, List·Memᴰ·not-nil, List·Memᴰ·append-cases, Memᴰ·append-left, Memᴰ·append-right}
+use mathlib.Core.List.{List, [], _∷_, _++_, map, flatMap, zipWith, reverseAux, append-nil, List·Memᴰ, List·Memᴰ·head, List·Memᴰ·tail, List·Memᴰ·cases-cons, List·Memᴰ·not-nil, List·Memᴰ·append-cases, Memᴰ·append-left, Memᴰ·append-right}
 use mathlib.Core.Logic.{_⊎_, inl, inr, ⊎-elim, by-cases}
 use native.Mathlib.Decide.{decLe}
 use native.Mathlib.Numerals.{add-one}
@@ -158,16 +158,32 @@ zipWith-at f (x ∷ xs) [] i a b c h k = absurd (omega arith)
 zipWith-at f (x ∷ xs) (y ∷ ys) zero a b c h k = refl
 zipWith-at f (x ∷ xs) (y ∷ ys) (suc i) a b c h k = zipWith-at f xs ys i a b c (omega arith) (omega arith)
 
--- what is listed by upFrom lies in its range
-pub upFrom-within : (a n p : ℕ) → List·Memᴰ p (upFrom a n) → (a ≤ p) × (p < a + n)
-unfolding upFrom
-upFrom-within a zero p i = absurd (List·Memᴰ·not-nil i)
-upFrom-within a (suc n) p i =
-    ⊎-elim (λ e. (omega arith, omega arith))
-    (λ j. let r = upFrom-within (suc a) n p j in (omega arith, omega arith)) (List·Memᴰ·cases-cons i)
-
 -- within the list, map acts at each index, whatever stands for what is past the end
 pub map-at : {A B : Type 0} (f : A → B) (xs : List A) (i : ℕ) (a : A) (b : B) → i < length xs → getD (map f xs) i b ≡ f (getD xs i a)
 map-at f [] i a b h = absurd (omega arith)
 map-at f (x ∷ xs) zero a b h = refl
 map-at f (x ∷ xs) (suc i) a b h = map-at f xs i a b (omega arith)
+
+-- ---- what upFrom lists is in its range
+
+pub upFrom-find : (a n p : ℕ) → List·Memᴰ p (upFrom a n) → (a ≤ p) × (p < a + n)
+unfolding upFrom
+upFrom-find a zero p i = absurd (List·Memᴰ·not-nil i)
+upFrom-find a (suc n) p i =
+    ⊎-elim (λ e. (omega arith, omega arith)) (λ j. let r = upFrom-find (suc a) n p j in (omega arith, omega arith)) (List·Memᴰ·cases-cons i)
+
+-- ---- reverseAux: the first list in reverse, then the second, and no element lost
+
+pub reverseAux-right : {A : Type 0} {x : A} (xs : List A) {ys : List A} → List·Memᴰ x ys → List·Memᴰ x (reverseAux xs ys)
+reverseAux-right [] i = i
+reverseAux-right (y ∷ xs) i = reverseAux-right xs (List·Memᴰ·tail i)
+
+pub reverseAux-left : {A : Type 0} {x : A} {xs : List A} (ys : List A) → List·Memᴰ x xs → List·Memᴰ x (reverseAux xs ys)
+reverseAux-left ys (List·Memᴰ·head {xs} e) = reverseAux-right xs (List·Memᴰ·head e)
+reverseAux-left ys (List·Memᴰ·tail {x = y} i) = reverseAux-left (y ∷ ys) i
+
+-- an element of a list of three is one of them
+pub one-of-three : {A : Type 0} (P : A → Type 0) {a b c x : A} → P a → P b → P c → List·Memᴰ x (a ∷ b ∷ c ∷ []) → P x
+one-of-three P u v w (List·Memᴰ·head e) = rw e u
+one-of-three P u v w (List·Memᴰ·tail (List·Memᴰ·head e)) = rw e v
+one-of-three P u v w (List·Memᴰ·tail (List·Memᴰ·tail (List·Memᴰ·head e))) = rw e w

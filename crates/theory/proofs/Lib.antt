@@ -1,7 +1,13 @@
 pub mod WorkedPlates
 pub mod Walks
+pub mod Cutting
 pub mod Steps
+pub mod Listed
 pub mod Reversal
+pub mod Shorter
+pub mod Moves
+pub mod Ranks
+pub mod Span
 pub mod Highest
 pub mod Admission
 pub mod Opening

@@ -14,7 +14,7 @@ use lib.Signed.{mag, _≤ℤ_}
 use Rattle.basics.specs.Lists.{upFrom}
 use Rattle.basics.proofs.Numbers.{le-or-lt}
 use Rattle.basics.proofs.Tests.{and-both, both-and}
-use Rattle.basics.proofs.Lists.{any-find, any-keep, flatMap-find, upFrom-length, upFrom-at, upFrom-within, map-at}
+use Rattle.basics.proofs.Lists.{any-find, any-keep, flatMap-find, upFrom-length, upFrom-at, upFrom-find, map-at}
 use Rattle.basics.proofs.Order.{≤ℤ-trans}
 use Rattle.plate.specs.Levels.{lowest}
 use Rattle.plate.specs.Directions.{chosen}
@@ -62,7 +62,7 @@ unfolding paths pathsIn places
 listed-on W H set L path i =
     let d = flatMap-find (pathsIn W H L) (chosen set) path i in
     let a = flatMap-find (pathsFrom W H (d .0) L) (upFrom 0 (W * H)) path (d .2) in
-    path-on W H (d .0) L (a .0) path (a .2) (omega (arith, upFrom-within 0 (W * H) (a .0) (a .1) .1))
+    path-on W H (d .0) L (a .0) path (a .2) (omega (arith, upFrom-find 0 (W * H) (a .0) (a .1) .1))
 
 module _ (s : Setting) (W H : ℕ) where
   -- ---- paths that count

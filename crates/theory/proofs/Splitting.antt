@@ -1,11 +1,12 @@
--- A walk through x splits at x into one that ends there, walked backwards, and one that starts there; and two such walks join. The pixel x is in
--- both parts, and where t ≤ g x it is low in neither, so that the counts add up. Pixels are moved from one walk to the other until x stands at
--- the cut: no list is reversed and none appended.
+-- A walk through x with few low pixels, by its two halves: l steps to x and the others from x on. The pixel x is in both halves, and where t ≤ g x
+-- it is low in neither, so that the counts add up.
 use Prim.Native.Nat.{ℕ, _+_, _-_, _≤_}
-use mathlib.Core.Path.{_≡_, sym, subst}
-use mathlib.Core.List.{List, List·Memᴰ, List·Memᴰ·head, List·Memᴰ·tail}
+use mathlib.Core.Path.{_≡_, refl, ap, _∙_}
+use mathlib.Core.List.{List, [], _∷_, tail, reverseAux, List·Memᴰ}
 use native.Mathlib.Omega.{arith}
+use Rattle.basics.proofs.Lists.{reverseAux-right}
 use Rattle.theory.proofs.Walks.{Walk, Walk.stop, Walk.go, walk-first}
+use Rattle.theory.proofs.Cutting.{Halves as Cut, split as cut, join}
 use Rattle.theory.proofs.LevelSets.{under, under-high, lowPixels, reach, reach-good, good-reach}
 
 -- some walk of m steps goes through x and has at most k pixels below t
@@ -16,17 +17,6 @@ pub record Crossing (next : ℕ → List ℕ) (g : ℕ → ℕ) (t m k x : ℕ) 
   pub crosses : List·Memᴰ x pixels
   pub few : lowPixels g t pixels ≤ k
 
--- its two parts: x is in both, and is counted twice if it is low
-pub record Parts (next back : ℕ → List ℕ) (g : ℕ → ℕ) (t m k x : ℕ) : Type 0 where
-  pub before : ℕ
-  pub after : ℕ
-  pub came : List ℕ
-  pub goes : List ℕ
-  pub walk-back : Walk back before x came
-  pub walk-on : Walk next after x goes
-  pub steps : before + after ≡ m
-  pub few : lowPixels g t came + lowPixels g t goes ≤ k + under t (g x)
-
 -- the same by numbers: l steps to x with i gaps, and the other steps from x on with the other gaps
 pub record Halves (next back : ℕ → List ℕ) (g : ℕ → ℕ) (t m k x : ℕ) : Type 0 where
   pub l : ℕ
@@ -36,54 +26,56 @@ pub record Halves (next back : ℕ → List ℕ) (g : ℕ → ℕ) (t m k x : �
   pub to-x : t ≤ reach back g l i x
   pub from-x : t ≤ reach next g (m - l) (k - i) x
 
+module _ (g : ℕ → ℕ) (t : ℕ) where
+  low-reverseAux : (ps qs : List ℕ) → lowPixels g t (reverseAux ps qs) ≡ lowPixels g t ps + lowPixels g t qs
+  unfolding lowPixels
+  low-reverseAux [] qs = omega arith
+  low-reverseAux (p ∷ ps) qs = omega (arith, low-reverseAux ps (p ∷ qs))
+
+  low-first : {next : ℕ → List ℕ} {m p : ℕ} {ps : List ℕ} → Walk next m p ps → lowPixels g t ps ≡ under t (g p) + lowPixels g t (tail ps)
+  unfolding lowPixels
+  low-first stop = refl
+  low-first (go e w) = refl
+
+  -- two halves that meet at x count x twice
+  low-joined :
+      {back : ℕ → List ℕ} {a x : ℕ} {came : List ℕ} (goes : List ℕ) → Walk back a x came →
+      lowPixels g t (reverseAux (tail came) goes) + under t (g x) ≡ lowPixels g t came + lowPixels g t goes
+  low-joined {came = came} goes w = omega (arith, low-reverseAux (tail came) goes, low-first w)
+
 module _ (next back : ℕ → List ℕ) (g : ℕ → ℕ) (t : ℕ) where
   module _ (turn : (p q : ℕ) → List·Memᴰ q (next p) → List·Memᴰ p (back q)) where
-    cut-here : {x y m k a b : ℕ} {ps qs : List ℕ} → y ≡ x → Walk back a y ps → Walk next b y qs → a + b ≡ m →
-        lowPixels g t ps + lowPixels g t qs ≤ k + under t (g y) → Parts next back g t m k x
-    cut-here {m = m} {k = k} e v w s c =
-        subst (λ (z : ℕ). Parts next back g t m k z) e
-        (record { before = _; after = _; came = _; goes = _; walk-back = v; walk-on = w; steps = s; few = c })
-
-    -- the cut is at y, and moves on until it is at x
-    cut : {x y m k a b : ℕ} {ps qs : List ℕ} → Walk back a y ps → Walk next b y qs → List·Memᴰ x qs → a + b ≡ m →
-        lowPixels g t ps + lowPixels g t qs ≤ k + under t (g y) → Parts next back g t m k x
-    unfolding lowPixels
-    cut v stop (List·Memᴰ·head e) s c = cut-here (sym e) v stop s c
-    cut v (go f w) (List·Memᴰ·head e) s c = cut-here (sym e) v (go f w) s c
-    cut v (go f w) (List·Memᴰ·tail i) s c = cut (go (turn _ _ f) v) w i (omega arith) (omega arith)
-
-    parts-halves : {m k x : ℕ} → t ≤ 65535 → t ≤ g x → Parts next back g t m k x → Halves next back g t m k x
-    parts-halves {m} {k} {x} small h c =
+    cut-halves : {m k x : ℕ} {ps : List ℕ} → t ≤ 65535 → t ≤ g x → lowPixels g t ps ≤ k → Cut next back m x ps → Halves next back g t m k x
+    cut-halves {m} {k} {x} {ps} small h few c =
         let i : ℕ = lowPixels g t (c .came) in
         let e : c .after ≡ m - c .before = omega (arith, c .steps) in
+        let n : lowPixels g t ps + under t (g x) ≡ i + lowPixels g t (c .goes) =
+        ap (λ (qs : List ℕ). lowPixels g t qs + under t (g x)) (c .pixels) ∙ low-joined g t (c .goes) (c .walk-back) in
         let u : under t (g x) ≡ 0 = under-high t (g x) h in
         record {
           l = c .before;
           i = i;
           l≤m = omega (arith, c .steps);
-          i≤k = omega (arith, c .few);
+          i≤k = omega arith;
           to-x = good-reach back g t small (c .before) i x (record { pixels = c .came; walk = c .walk-back; few = omega arith });
           from-x = good-reach next g t small (m - c .before) (k - i) x
-              (record { pixels = c .goes; walk = rw e at (c .walk-on); few = omega (arith, c .few) });
+              (record { pixels = c .goes; walk = rw e at (c .walk-on); few = omega arith });
         }
 
     pub split : {m k x : ℕ} → t ≤ 65535 → t ≤ g x → Crossing next g t m k x → Halves next back g t m k x
-    unfolding lowPixels
-    split small h c = parts-halves small h (cut stop (c .walk) (c .crosses) (omega arith) (omega (arith, c .few)))
+    split small h c = cut-halves small h (c .few) (cut next back turn (c .walk) (c .crosses))
 
+  -- whatever the key of x: counting it twice only asks for more
   module _ (turn-back : (p q : ℕ) → List·Memᴰ q (back p) → List·Memᴰ p (next q)) where
-    -- the cut is at y, and moves back until nothing is before it
-    pub join : {x y m k a b : ℕ} {ps qs : List ℕ} → Walk back a y ps → Walk next b y qs → List·Memᴰ x qs → a + b ≡ m →
-        lowPixels g t ps + lowPixels g t qs ≤ k + under t (g y) → Crossing next g t m k x
-    unfolding lowPixels
-    join {m = m} {b = b} {qs = qs} (stop {p}) w i s c =
-        let e : b ≡ m = omega arith in
-        record { start = p; pixels = qs; walk = subst (λ (n : ℕ). Walk next n p qs) e w; crosses = i; few = omega arith }
-    join (go e v) w i s c = join v (go (turn-back _ _ e) w) (List·Memᴰ·tail i) (omega arith) (omega arith)
-
-    -- whatever the key of x: counting it twice only asks for more
     pub unsplit : {m k x : ℕ} → 1 ≤ t → Halves next back g t m k x → Crossing next g t m k x
     unsplit {m} {k} {x} positive c =
         let a = reach-good back g t positive (c .l) (c .i) x (c .to-x) in
         let b = reach-good next g t positive (m - c .l) (k - c .i) x (c .from-x) in
-        join (a .walk) (b .walk) (walk-first (b .walk)) (omega (arith, c .l≤m)) (omega (arith, a .few, b .few, c .i≤k))
+        let u = join back next turn-back {m = m} (a .walk) (b .walk) (omega (arith, c .l≤m)) in
+        record {
+          start = u .start;
+          pixels = reverseAux (tail (a .pixels)) (b .pixels);
+          walk = u .walk;
+          crosses = reverseAux-right (tail (a .pixels)) (walk-first (b .walk));
+          few = omega (arith, low-joined g t (b .pixels) (a .walk), a .few, b .few, c .i≤k);
+        }

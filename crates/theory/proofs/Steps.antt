@@ -1,11 +1,12 @@
 -- What a step says: where it starts and where it lands, in columns and rows, and that both are on the plate.
-use Prim.Native.Nat.{ℕ, zero, suc, _+_, _*_, _/_, _%_, _≤_, _<_}
+use Prim.Native.Nat.{ℕ, zero, suc, _+_, _*_, _/_, _%_, _<_}
 use mathlib.Core.Path.{_≡_, refl, sym, ap, _∙_}
 use mathlib.Core.Bool.{Bool, true, false, cond, _&&_}
-use mathlib.Core.List.{List, [], _∷_, map, List·Memᴰ, List·Memᴰ·head, List·Memᴰ·tail, List·Memᴰ·cases-cons, List·Memᴰ·not-nil}
+use mathlib.Core.List.{List, [], _∷_, List·Memᴰ, List·Memᴰ·head, List·Memᴰ·tail, List·Memᴰ·cases-cons, List·Memᴰ·not-nil}
 use mathlib.Core.Logic.{_⊎_, inl, inr, ⊎-elim}
+use native.Mathlib.Nat.{mod-lt, div-lt-iff-lt-mul, zero-mul}
 use native.Mathlib.Omega.{arith}
-use lib.Arith.{digits-lt}
+use lib.Arith.{digits-lt, digits-div, digits-mod}
 use lib.Dec.{ltb}
 use lib.IntN.{ℤ, pos, negsuc, _+ℤ_}
 use borrow.Author.Tests.{lt-ltb, ltb-true}
@@ -51,6 +52,21 @@ stepped W H s p q e = go (ltb p (W * H)) refl e
 
 pub landed-on : {W H : ℕ} {x y : ℤ} {q : ℕ} → Landed W H x y q → q < W * H
 landed-on l = omega (arith, digits-lt (l .row<) (l .col<), l .place)
+
+pub landed-column : {W H : ℕ} {x y : ℤ} {q : ℕ} (l : Landed W H x y q) → q % W ≡ l .col
+landed-column {W} l = ap (λ (n : ℕ). n % W) (l .place) ∙ digits-mod (l .row) (l .col<)
+
+pub landed-row : {W H : ℕ} {x y : ℤ} {q : ℕ} (l : Landed W H x y q) → q / W ≡ l .row
+landed-row {W} l = ap (λ (n : ℕ). n / W) (l .place) ∙ digits-div (l .row) (l .col<)
+
+-- the column and the row of a place of the plate
+pub column-below : (W H p : ℕ) → p < W * H → p % W < W
+column-below zero H p h = absurd (omega (arith, zero-mul H))
+column-below (suc W) H p h = mod-lt p (omega arith)
+
+pub row-below : (W H p : ℕ) → p < W * H → p / W < H
+row-below zero H p h = absurd (omega (arith, zero-mul H))
+row-below (suc W) H p h = div-lt-iff-lt-mul {k = suc W} (omega arith) .1 (omega arith)
 
 -- ---- the places that a list of steps reaches
 

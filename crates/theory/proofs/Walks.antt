@@ -1,12 +1,10 @@
 -- Paths as walks. A walk is counted by its steps (m steps, m + 1 pixels) and is a derivation instead of an entry of a list, so that proofs go
 -- by induction on it. It is stated over any function that gives the next places, forwards or backwards.
-use Prim.Native.Nat.{ℕ, zero, suc, _+_, _*_, _<_}
-use mathlib.Core.Path.{_≡_, refl, sym, ap, subst}
-use mathlib.Core.List.{List, [], _∷_, map, flatMap, List·Memᴰ, List·Memᴰ·head, List·Memᴰ·tail, List·Memᴰ·eq-of-singleton}
-use native.Mathlib.Omega.{arith}
+use Prim.Native.Nat.{ℕ, zero, suc}
+use mathlib.Core.Path.{_≡_, refl, ap, subst}
+use mathlib.Core.List.{List, [], _∷_, tail, flatMap, List·Memᴰ, List·Memᴰ·head, List·Memᴰ·eq-of-singleton}
 use lib.Dec.{T, eqb, eqb→eq, eqb-refl}
 use lib.ListN.{length}
-use Rattle.basics.specs.Lists.{any}
 use Rattle.basics.proofs.Lists.{any-find, any-keep, flatMap-find, flatMap-keep, map-find, map-keep}
 use Rattle.plate.specs.Paths.{next, pathsFrom, through}
 
@@ -14,6 +12,15 @@ use Rattle.plate.specs.Paths.{next, pathsFrom, through}
 pub data Walk (next : ℕ → List ℕ) : ℕ → ℕ → List ℕ → Type 0 where
   stop : {p : ℕ} → Walk next zero p (p ∷ [])
   go : {m p q : ℕ} {ps : List ℕ} → List·Memᴰ q (next p) → Walk next m q ps → Walk next (suc m) p (p ∷ ps)
+
+-- a walk of m steps that has the pixels ps, from wherever it starts; and one that starts at p, over whatever pixels it goes
+pub record WalkOf (next : ℕ → List ℕ) (m : ℕ) (ps : List ℕ) : Type 0 where
+  pub start : ℕ
+  pub walk : Walk next m start ps
+
+pub record WalkFrom (next : ℕ → List ℕ) (m p : ℕ) : Type 0 where
+  pub pixels : List ℕ
+  pub walk : Walk next m p pixels
 
 pub walk-length : {next : ℕ → List ℕ} {m p : ℕ} {ps : List ℕ} → Walk next m p ps → length ps ≡ suc m
 walk-length stop = refl
@@ -23,6 +30,14 @@ walk-length (go e w) = ap suc (walk-length w)
 pub walk-first : {next : ℕ → List ℕ} {m p : ℕ} {ps : List ℕ} → Walk next m p ps → List·Memᴰ p ps
 walk-first stop = List·Memᴰ·head refl
 walk-first (go e w) = List·Memᴰ·head refl
+
+pub walk-starts : {next : ℕ → List ℕ} {m p : ℕ} {ps : List ℕ} → Walk next m p ps → ps ≡ p ∷ tail ps
+walk-starts stop = refl
+walk-starts (go e w) = refl
+
+-- a walk with one step before it
+pub step-first : {next : ℕ → List ℕ} {m p q : ℕ} → List·Memᴰ q (next p) → WalkFrom next m q → WalkFrom next (suc m) p
+step-first {p = p} e w = record { pixels = p ∷ w .pixels; walk = go e (w .walk) }
 
 -- the listed paths of L pixels are the walks of L − 1 steps
 module _ (W H bit : ℕ) where
