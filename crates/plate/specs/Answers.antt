@@ -1,5 +1,6 @@
 -- The answer enums, case by case, in document 01's numbers and values.
 use Prim.Native.Nat.{ℕ}
+use mathlib.Core.Path.{_≡_}
 use mathlib.Core.Bool.{cond}
 use mathlib.Core.List.{List}
 use lib.IntN.{ℤ}
@@ -28,6 +29,11 @@ answered (Refused number place) = refused number place
 abbrev pub resultAfter : Answer → List ℤ → List ℤ → List ℤ
 resultAfter Done new old = new
 resultAfter (Refused number place) new old = old
+
+-- a lent work buffer: after a refusal it is as it was, and after an accepted call its contents are free
+abbrev pub workAfter : Answer → List ℕ → List ℕ → Type 0
+workAfter Done old new = Unit
+workAfter (Refused number place) old new = new ≡ old
 
 -- a walker's step: where it leads, and the walker there
 abbrev pub reached : Moved → Reached

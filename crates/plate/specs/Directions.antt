@@ -1,5 +1,5 @@
 -- Document 01, section 2: the table of directions (document 01: ways) and their steps.
-use Prim.Native.Nat.{ℕ, _/_, _%_}
+use Prim.Native.Nat.{ℕ, zero, suc, _/_, _%_}
 use mathlib.Core.Bool.{Bool, cond}
 use mathlib.Core.List.{List, [], _∷_, map}
 use lib.Dec.{eqb}
@@ -48,6 +48,11 @@ indexOf bit = firstOf (λ d. eqb (d .bit) bit) table
 -- the numbered step of the direction that stands at this index of the table, counted from 0; no change where there is none
 unfoldable pub stepAt : ℕ → ℕ → Step
 stepAt index number = getD (getD (map (λ d. d .steps) table) index []) number (by ±0 ±0)
+
+-- a step's column change (part 0) or row change
+abbrev pub changeOf : ℕ → Step → ℤ
+changeOf zero s = s .column
+changeOf (suc part) s = s .row
 
 unfoldable pub stepsIn : List Direction → ℕ → List Step
 stepsIn [] bit = []

@@ -22,3 +22,7 @@ pub const CORRECTION: usize = 10;
 pub const PLACE: usize = 11;
 
 pub const NO_PATH: usize = 12;
+
+pub const LINE: usize = 13;
+
+pub const TEXT: usize = 14;

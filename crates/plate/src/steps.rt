@@ -1,5 +1,6 @@
 ghost use mathlib.Core.Path.{_≡_};
-ghost use Rattle.plate.specs.Directions.{indexOf, stepAt};
+ghost use Prim.Native.Nat.{_<_};
+ghost use Rattle.plate.specs.Directions.{indexOf, stepAt, changeOf};
 
 // The step table of document 01, section 2: for each direction (document 01: way) three steps, each
 // a column change and a row change.
@@ -31,18 +32,20 @@ pub fn index_of(direction: usize) -> usize
 pub fn column_change(index: usize, number: usize) -> i8
     ensures { λ r. ⌜ r ≡ stepAt index number .column ⌝ }
 {
-    if index >= DIRECTIONS {
-        return 0;
-    }
-    if number >= STEPS_EACH {
-        return 0;
-    }
-    STEPS[index][number][0]
+    change(index, number, 0)
 }
 
 // The row change of the same step.
 pub fn row_change(index: usize, number: usize) -> i8
     ensures { λ r. ⌜ r ≡ stepAt index number .row ⌝ }
+{
+    change(index, number, 1)
+}
+
+// An entry of the table: the column change (part 0) or the row change (part 1).
+fn change(index: usize, number: usize, part: usize) -> i8
+    requires { ⌜ part < 2 ⌝ }
+    ensures { λ r. ⌜ r ≡ changeOf part (stepAt index number) ⌝ }
 {
     if index >= DIRECTIONS {
         return 0;
@@ -50,5 +53,5 @@ pub fn row_change(index: usize, number: usize) -> i8
     if number >= STEPS_EACH {
         return 0;
     }
-    STEPS[index][number][1]
+    STEPS[index][number][part]
 }
