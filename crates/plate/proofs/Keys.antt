@@ -114,3 +114,9 @@ mirror-order (negsuc m) (negsuc n) = rw (mirror-negsuc m, mirror-negsuc n)
 
 pub mirror-reverses : {v w : ℤ} → v ≤ℤ w → mirror w ≤ℤ mirror v
 mirror-reverses {v} {w} h = leZ-yes (rw (mirror-order v w) (h .le))
+
+pub mirror-ltZ : (v w : ℤ) → ltZ (mirror v) (mirror w) ≡ ltZ w v
+mirror-ltZ (pos m) (pos n) = rw (mirror-pos m, mirror-pos n)
+mirror-ltZ (pos m) (negsuc n) = rw (mirror-pos m, mirror-negsuc n)
+mirror-ltZ (negsuc m) (pos n) = rw (mirror-negsuc m, mirror-pos n)
+mirror-ltZ (negsuc m) (negsuc n) = rw (mirror-negsuc m, mirror-negsuc n)

@@ -11,6 +11,8 @@ use Rattle.plate.specs.declared.setting.Made.{Made}
 use Rattle.plate.specs.declared.setting.Made.the-variants.{Valid, Refused as Unmade}
 use Rattle.plate.specs.declared.answer.Answer.{Answer}
 use Rattle.plate.specs.declared.answer.Answer.the-variants.{Done, Refused}
+use Rattle.plate.specs.declared.answer.Traced.{Traced}
+use Rattle.plate.specs.declared.answer.Traced.the-variants.{Path, Refused as Untraced}
 use Rattle.plate.specs.declared.walker.Walker.{Walker}
 use Rattle.plate.specs.declared.walker.Moved.{Moved}
 use Rattle.plate.specs.declared.walker.Moved.the-variants.{To, Leaves}
@@ -34,6 +36,17 @@ resultAfter (Refused number place) new old = old
 abbrev pub workAfter : Answer → List ℕ → List ℕ → Type 0
 workAfter Done old new = Unit
 workAfter (Refused number place) old new = new ≡ old
+
+-- a trace: the level that it returns; which path is shown, and with it the direction, is free
+abbrev pub tracedLevel : Traced → Verdict ℤ
+tracedLevel (Path direction level) = accepted level
+tracedLevel (Untraced number place) = refused number place
+
+-- a trace's lent buffers: after a refusal both are as they were; after a path is shown, the path buffer holds one of which `shown` is true, by its
+-- direction, its level and its places, and the work buffer's contents are free
+abbrev pub traceAfter : Traced → (ℕ → ℤ → List ℕ → Type 0) → (path path′ work work′ : List ℕ) → Type 0
+traceAfter (Path direction level) shown path path′ work work′ = shown direction level path′
+traceAfter (Untraced number place) shown path path′ work work′ = (path′ ≡ path) × (work′ ≡ work)
 
 -- a walker's step: where it leads, and the walker there
 abbrev pub reached : Moved → Reached

@@ -128,10 +128,12 @@ filterChecks W H s plate wanted room work =
 unfoldable pub filterVerdict : ℕ → ℕ → Setting → ℕ → ℕ → ℕ → Verdict Unit
 filterVerdict W H s plate room work = judged (filterChecks W H s plate (W * H) room work) tt
 
--- the trace: 1 to 8, 11, 12, with the traced place x and the lengths of path and work; accepted, it returns the filtered level at x
+-- the trace: 1 to 8, 11, 12, with the length of the plate, the traced place x and the lengths of path and work
+abbrev pub traceChecks : ℕ → ℕ → Setting → ℕ → ℕ → ℕ → ℕ → List Check
+traceChecks W H s plate x room work =
+    filterChecks W H s plate (s .length) room work
+    ++ (placeCheck (W * H) x ∷ pathCheck (crossed W H (s .directions) (s .length) x) ∷ [])
+
+-- accepted, it returns the filtered level at x
 unfoldable pub traceVerdict : ℕ → ℕ → Setting → List ℤ → ℕ → ℕ → ℕ → Verdict ℤ
-traceVerdict W H s f x room work =
-    judged
-    (filterChecks W H s (length f) (s .length) room work
-    ++ (placeCheck (W * H) x ∷ pathCheck (crossed W H (s .directions) (s .length) x) ∷ []))
-    (levelAt (filtered s W H f) x)
+traceVerdict W H s f x room work = judged (traceChecks W H s (length f) x room work) (levelAt (filtered s W H f) x)

@@ -14,6 +14,7 @@ mod steps;
 mod walker;
 
 pub use answer::Answer;
+pub use answer::Traced;
 pub use correction::MAX_CORRECTION;
 pub use correction::MAX_READING;
 pub use correction::MIN_CORRECTION;

@@ -17,3 +17,4 @@ pub mod LevelSets
 pub mod Splitting
 pub mod Decomposition
 pub mod Terms
+pub mod Trace

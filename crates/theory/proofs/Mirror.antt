@@ -26,7 +26,7 @@ turned s v = cond (eqb (s .mode) 0) v (mirror v)
 
 module _ (s : Setting) where
   -- the two modes, as a proof goes through them
-  as-mode :
+  pub as-mode :
       {A : Type 0} → (eqb (s .mode) 0 ≡ true → turned s ≡ (λ v. v) → A) → (eqb (s .mode) 0 ≡ false → turned s ≡ mirror → A) → A
   unfolding turned
   as-mode opening closing =
@@ -52,7 +52,7 @@ module _ (s : Setting) where
   all-turned (v ∷ f) = rw (turned-turned v, all-turned f)
 
   -- the level at a place of the turned plate
-  levelAt-turned : (f : List ℤ) (x : ℕ) → x < length f → levelAt (map (turned s) f) x ≡ turned s (levelAt f x)
+  pub levelAt-turned : (f : List ℤ) (x : ℕ) → x < length f → levelAt (map (turned s) f) x ≡ turned s (levelAt f x)
   levelAt-turned f x h = map-at (turned s) f x lowest lowest h
 
   pub turned-levels : (f : List ℤ) → Levels f → Levels (map (turned s) f)

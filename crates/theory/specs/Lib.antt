@@ -1,1 +1,2 @@
 pub mod WorkedPlates
+pub mod Trace
