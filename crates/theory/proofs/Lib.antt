@@ -8,6 +8,7 @@ pub mod Shorter
 pub mod Moves
 pub mod Ranks
 pub mod Span
+pub mod Sides
 pub mod Highest
 pub mod Admission
 pub mod Opening
@@ -17,4 +18,6 @@ pub mod LevelSets
 pub mod Splitting
 pub mod Decomposition
 pub mod Terms
+pub mod Following
+pub mod Recorded
 pub mod Trace

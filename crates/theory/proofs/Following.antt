@@ -1,0 +1,50 @@
+-- Following a good walk pixel by pixel. At a pixel with m + 1 steps to go and j gaps left, a level t that can be reached is reached again at some
+-- neighbour: with as many gaps where the pixel itself is not below t, with one fewer where it is. At the lowest key every walk counts, so there room
+-- alone decides. On and back alike, by `Side`.
+use Prim.Native.Nat.{ℕ, zero, suc, _+_, _-_, _*_, _≤_, _<_, min, max}
+use mathlib.Core.Path.{_≡_, refl}
+use mathlib.Core.Bool.{Bool}
+use mathlib.Core.List.{List, [], _∷_, List·Memᴰ}
+use mathlib.Core.Logic.{⊎-elim}
+use native.Mathlib.Omega.{arith}
+use Rattle.basics.proofs.Numbers.{le-or-lt, le-max-split}
+use Rattle.theory.proofs.LevelSets.{best, best-find, best-mono, fewer, reach, reach-step, reach-start, reach-good, reach-more-gaps}
+use Rattle.theory.proofs.Sides.{towards, room, Side}
+
+module _ (next : ℕ → List ℕ) (g : ℕ → ℕ) (bounded : (p : ℕ) → g p ≤ 65535) (t : ℕ) where
+  -- the pixel is not below t: the others may have as many gaps
+  pub reach-high : (m j p : ℕ) → t ≤ g p → t ≤ reach next g (suc m) j p → t ≤ best (reach next g m j) (next p)
+  unfolding fewer
+  reach-high m zero p h r = omega (arith, reach-step next g m zero p)
+  reach-high m (suc j) p h r =
+      omega (
+        arith,
+        reach-step next g m (suc j) p,
+        best-mono (reach next g m j) (reach next g m (suc j)) (reach-more-gaps next g bounded m j) (next p),
+      )
+
+  -- the pixel is below t: it is a gap
+  pub reach-low : (m j p : ℕ) → g p < t → t ≤ reach next g (suc m) j p → (0 < j) × (t ≤ best (reach next g m (j - 1)) (next p))
+  unfolding fewer
+  reach-low m zero p h r = absurd (omega (arith, reach-step next g m zero p))
+  reach-low m (suc j) p h r =
+      let e : suc j - 1 ≡ j = omega arith in (omega arith, rw e (omega (arith, reach-step next g m (suc j) p)))
+
+  -- the last pixel
+  pub reach-last : (j p : ℕ) → g p < t → t ≤ reach next g 0 j p → 0 < j
+  reach-last zero p h r = absurd (omega (arith, reach-start next g p))
+  reach-last (suc j) p h r = omega arith
+
+-- some neighbour reaches t too, and has room for the steps that are left
+module _ {W H bit : ℕ} {b : Bool} (S : Side W H bit b) (g : ℕ → ℕ) (t : ℕ) where
+  pub neighbour :
+      (m j p : ℕ) → p < W * H → suc m ≤ room W H bit b p → t ≤ best (reach (towards W H bit b) g m j) (towards W H bit b p) →
+      (q : ℕ) × List·Memᴰ q (towards W H bit b p) × (t ≤ reach (towards W H bit b) g m j q) × (m ≤ room W H bit b q)
+  neighbour m j p on l h =
+      ⊎-elim
+      (λ positive.
+      let r = best-find (reach (towards W H bit b) g m j) t (towards W H bit b p) positive h in
+      let w = reach-good (towards W H bit b) g t positive m j (r .0) (r .2) in
+      (r .0, r .1, r .2, S .fits (S .stays p (r .0) (r .1) .1) (w .walk)))
+      (λ none. let r = S .onward p on (omega arith) in (r .0, r .1, omega arith, omega (arith, r .2)))
+      (le-or-lt 1 t)
