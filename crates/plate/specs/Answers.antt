@@ -48,11 +48,6 @@ abbrev pub traceAfter : Traced → (ℕ → ℤ → List ℕ → Type 0) → (pa
 traceAfter (Path direction level) shown path path′ work work′ = shown direction level path′
 traceAfter (Untraced number place) shown path path′ work work′ = (path′ ≡ path) × (work′ ≡ work)
 
--- a walker's step: where it leads, and the walker there
-abbrev pub reached : Moved → Reached
-reached (To w) = at (w .place)
-reached Leaves = leaves
-
 -- the walker as it was, at another place
 abbrev pub moved : Walker → Reached → Moved
 moved w (at q) = To (record { width = w .width; height = w .height; direction = w .direction; place = q })

@@ -9,7 +9,7 @@ use mathlib.Core.Logic.{⊎-elim}
 use native.Mathlib.Omega.{arith}
 use Rattle.basics.proofs.Numbers.{le-or-lt, le-max-split}
 use Rattle.theory.proofs.LevelSets.{best, best-find, best-mono, fewer, reach, reach-step, reach-start, reach-good, reach-more-gaps}
-use Rattle.theory.proofs.Sides.{towards, room, Side}
+use Rattle.theory.proofs.Sides.{around, room, Side}
 
 module _ (next : ℕ → List ℕ) (g : ℕ → ℕ) (bounded : (p : ℕ) → g p ≤ 65535) (t : ℕ) where
   -- the pixel is not below t: the others may have as many gaps
@@ -38,13 +38,13 @@ module _ (next : ℕ → List ℕ) (g : ℕ → ℕ) (bounded : (p : ℕ) → g 
 -- some neighbour reaches t too, and has room for the steps that are left
 module _ {W H bit : ℕ} {b : Bool} (S : Side W H bit b) (g : ℕ → ℕ) (t : ℕ) where
   pub neighbour :
-      (m j p : ℕ) → p < W * H → suc m ≤ room W H bit b p → t ≤ best (reach (towards W H bit b) g m j) (towards W H bit b p) →
-      (q : ℕ) × List·Memᴰ q (towards W H bit b p) × (t ≤ reach (towards W H bit b) g m j q) × (m ≤ room W H bit b q)
+      (m j p : ℕ) → p < W * H → suc m ≤ room W H bit b p → t ≤ best (reach (around b W H bit) g m j) (around b W H bit p) →
+      (q : ℕ) × List·Memᴰ q (around b W H bit p) × (t ≤ reach (around b W H bit) g m j q) × (m ≤ room W H bit b q)
   neighbour m j p on l h =
       ⊎-elim
       (λ positive.
-      let r = best-find (reach (towards W H bit b) g m j) t (towards W H bit b p) positive h in
-      let w = reach-good (towards W H bit b) g t positive m j (r .0) (r .2) in
+      let r = best-find (reach (around b W H bit) g m j) t (around b W H bit p) positive h in
+      let w = reach-good (around b W H bit) g t positive m j (r .0) (r .2) in
       (r .0, r .1, r .2, S .fits (S .stays p (r .0) (r .1) .1) (w .walk)))
       (λ none. let r = S .onward p on (omega arith) in (r .0, r .1, omega arith, omega (arith, r .2)))
       (le-or-lt 1 t)

@@ -12,10 +12,10 @@ use Rattle.theory.proofs.Reversal.{back, turn-back}
 use Rattle.theory.proofs.Ranks.{rank, bits, Ranked, ranked}
 use Rattle.theory.proofs.Span.{walk-fits, back-fits}
 
--- the places that one step leads to, on or back
-abbrev pub towards : ℕ → ℕ → ℕ → Bool → ℕ → List ℕ
-towards W H bit true p = back W H bit p
-towards W H bit false p = next W H bit p
+-- the places to which one step of a direction leads, or from which it leads here
+unfoldable pub around : Bool → ℕ → ℕ → ℕ → ℕ → List ℕ
+around true W H bit p = back W H bit p
+around false W H bit p = next W H bit p
 
 -- how many steps lead on from p: up to the highest rank, or back to the lowest
 abbrev pub room : ℕ → ℕ → ℕ → Bool → ℕ → ℕ
@@ -31,17 +31,18 @@ other W H bit side p = room W H bit (opposite side) p
 
 pub record Side (W H bit : ℕ) (side : Bool) : Type 0 where
   -- a walk has no more steps than its first pixel has room
-  pub fits : {m p : ℕ} {ps : List ℕ} → p < W * H → Walk (towards W H bit side) m p ps → m ≤ room W H bit side p
+  pub fits : {m p : ℕ} {ps : List ℕ} → p < W * H → Walk (around side W H bit) m p ps → m ≤ room W H bit side p
   -- where there is room, some step takes just one of it
-  pub onward : (p : ℕ) → p < W * H → 0 < room W H bit side p → (q : ℕ) × List·Memᴰ q (towards W H bit side p) × (room W H bit side p ≡ room W H bit side q + 1)
+  pub onward : (p : ℕ) → p < W * H → 0 < room W H bit side p → (q : ℕ) × List·Memᴰ q (around side W H bit p) × (room W H bit side p ≡ room W H bit side q + 1)
   -- every step leaves more room on the other side
-  pub rises : (p q : ℕ) → List·Memᴰ q (towards W H bit side p) → other W H bit side p < other W H bit side q
-  pub stays : (p q : ℕ) → List·Memᴰ q (towards W H bit side p) → (p < W * H) × (q < W * H)
+  pub rises : (p q : ℕ) → List·Memᴰ q (around side W H bit p) → other W H bit side p < other W H bit side q
+  pub stays : (p q : ℕ) → List·Memᴰ q (around side W H bit p) → (p < W * H) × (q < W * H)
   -- the two rooms and the pixel itself make up the span
   pub total : (p : ℕ) → p < W * H → room W H bit side p + other W H bit side p + 1 ≡ span W H bit
 
 module _ (W H bit : ℕ) (R : Ranked W H bit) where
   forwards : Side W H bit false
+  unfolding around
   forwards =
       record {
         fits = λ h w. omega (arith, walk-fits W H bit R h w);
@@ -54,6 +55,7 @@ module _ (W H bit : ℕ) (R : Ranked W H bit) where
       }
 
   backwards : Side W H bit true
+  unfolding around
   backwards =
       record {
         fits = λ h w. back-fits W H bit R w;
@@ -71,7 +73,7 @@ side W H bit i true = backwards W H bit (ranked W H bit i)
 side W H bit i false = forwards W H bit (ranked W H bit i)
 
 -- a walk of m steps starts at p exactly when p has room for it: here that it then does
-pub side-walk : {W H bit : ℕ} {b : Bool} → Side W H bit b → (m p : ℕ) → p < W * H → m ≤ room W H bit b p → WalkFrom (towards W H bit b) m p
+pub side-walk : {W H bit : ℕ} {b : Bool} → Side W H bit b → (m p : ℕ) → p < W * H → m ≤ room W H bit b p → WalkFrom (around b W H bit) m p
 side-walk S zero p h l = record { pixels = p ∷ []; walk = stop }
 side-walk S (suc m) p h l =
     let r = S .onward p h (omega arith) in
