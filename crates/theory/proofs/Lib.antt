@@ -1,19 +1,25 @@
-pub mod WorkedPlates
+-- steps and walks
+pub mod Steps
+pub mod Moves
 pub mod Walks
 pub mod Cutting
-pub mod Steps
+-- the paths of the plate
 pub mod Listed
 pub mod Reversal
 pub mod Shorter
-pub mod Moves
 pub mod Ranks
 pub mod Span
+-- opening and closing
 pub mod Highest
 pub mod Admission
 pub mod Opening
 pub mod Idempotent
 pub mod Mirror
+-- the decomposition
+pub mod Maxima
 pub mod LevelSets
 pub mod Splitting
 pub mod Decomposition
 pub mod Terms
+-- the worked plates
+pub mod WorkedPlates
