@@ -1,5 +1,5 @@
 -- General laws of signed numbers. `mag z` is n for n and for −(n + 1), so a range of ℤ is one bound in ℕ, which `omega` reads.
-use Prim.Native.Nat.{ℕ, zero, suc, _+_, _-_, _≤_, _<_, _^_}
+use Prim.Native.Nat.{ℕ, suc, _+_, _≤_}
 use mathlib.Core.Path.{_≡_}
 use mathlib.Core.Bool.{false}
 use mathlib.Core.Logic.{⊎-elim}

@@ -1,16 +1,17 @@
--- General laws of lists: what is in them, and the functions of specs/Lists.antt.
-use Prim.Native.Nat.{ℕ, zero, suc, _+_, _-_, _≤_, _<_}
+-- General laws of lists: what is in them, and the functions of specs/Lists.antt. They come in pairs: `-find` says what a passed test or an element
+-- of a made list comes from, `-keep` makes one.
+use Prim.Native.Nat.{ℕ, zero, suc, _+_, _≤_, _<_}
 use mathlib.Core.Path.{_≡_, refl, sym, ap, subst, _∙_}
-use mathlib.Core.Bool.{Bool, true, false, cond, _||_}
+use mathlib.Core.Bool.{Bool, true, false}
 use mathlib.Core.List.{List, [], _∷_, _++_, map, flatMap, zipWith, reverseAux, append-nil, List·Memᴰ, List·Memᴰ·head, List·Memᴰ·tail, List·Memᴰ·cases-cons, List·Memᴰ·not-nil, List·Memᴰ·append-cases, Memᴰ·append-left, Memᴰ·append-right}
-use mathlib.Core.Logic.{_⊎_, inl, inr, ⊎-elim, by-cases}
-use native.Mathlib.Decide.{decLe}
+use mathlib.Core.Logic.{⊎-elim}
 use native.Mathlib.Numerals.{add-one}
 use native.Mathlib.Omega.{arith}
 use lib.Dec.{T}
 use lib.ListN.{length, getD, take, drop, set, drop-of-length-le}
 use lib.Seq.{drop-cons, take-suc, set-at, append-snoc, length-take-le, take-all}
 use Rattle.basics.specs.Lists.{any, keep, firstOf, upFrom}
+use Rattle.basics.proofs.Numbers.{le-or-lt}
 use Rattle.basics.proofs.Tests.{true-or-false, T-true, true-T, or-cases, or-left, or-right}
 
 -- ---- any: some element passes
@@ -75,14 +76,31 @@ pub map-keep : {A B : Type 0} (f : A → B) {xs : List A} {x : A} → List·Mem�
 map-keep f (List·Memᴰ·head e) = List·Memᴰ·head (ap f e)
 map-keep f (List·Memᴰ·tail i) = List·Memᴰ·tail (map-keep f i)
 
+-- a function that undoes itself does so in a list
+pub map-undone : {A : Type 0} (f : A → A) → ((x : A) → f (f x) ≡ x) → (xs : List A) → map f (map f xs) ≡ xs
+map-undone f e [] = refl
+map-undone f e (x ∷ xs) = rw (e x, map-undone f e xs)
+
+-- within the list, map acts at each index, whatever stands for what is past the end
+pub map-at : {A B : Type 0} (f : A → B) (xs : List A) (i : ℕ) (a : A) (b : B) → i < length xs → getD (map f xs) i b ≡ f (getD xs i a)
+map-at f [] i a b h = absurd (omega arith)
+map-at f (x ∷ xs) zero a b h = refl
+map-at f (x ∷ xs) (suc i) a b h = map-at f xs i a b (omega arith)
+
 -- ---- upFrom: exactly the numbers a, a + 1, .., a + n - 1
+
+pub upFrom-find : (a n p : ℕ) → List·Memᴰ p (upFrom a n) → (a ≤ p) × (p < a + n)
+unfolding upFrom
+upFrom-find a zero p i = absurd (List·Memᴰ·not-nil i)
+upFrom-find a (suc n) p i =
+    ⊎-elim (λ e. (omega arith, omega arith)) (λ j. let r = upFrom-find (suc a) n p j in (omega arith, omega arith)) (List·Memᴰ·cases-cons i)
 
 pub upFrom-has : (a n p : ℕ) → a ≤ p → p < a + n → List·Memᴰ p (upFrom a n)
 unfolding upFrom
 upFrom-has a zero p l h = absurd (omega arith)
 upFrom-has a (suc n) p l h =
-    by-cases (decLe (suc a) p) (λ u. List·Memᴰ·tail (upFrom-has (suc a) n p u (omega arith)))
-    (λ u. let e : p ≡ a = omega arith in List·Memᴰ·head e)
+    ⊎-elim (λ u. List·Memᴰ·tail (upFrom-has (suc a) n p u (omega arith)))
+    (λ u. let e : p ≡ a = omega arith in List·Memᴰ·head e) (le-or-lt (suc a) p)
 
 pub upFrom-length : (a n : ℕ) → length (upFrom a n) ≡ n
 unfolding upFrom
@@ -157,20 +175,6 @@ zipWith-at f [] ys i a b c h k = absurd (omega arith)
 zipWith-at f (x ∷ xs) [] i a b c h k = absurd (omega arith)
 zipWith-at f (x ∷ xs) (y ∷ ys) zero a b c h k = refl
 zipWith-at f (x ∷ xs) (y ∷ ys) (suc i) a b c h k = zipWith-at f xs ys i a b c (omega arith) (omega arith)
-
--- within the list, map acts at each index, whatever stands for what is past the end
-pub map-at : {A B : Type 0} (f : A → B) (xs : List A) (i : ℕ) (a : A) (b : B) → i < length xs → getD (map f xs) i b ≡ f (getD xs i a)
-map-at f [] i a b h = absurd (omega arith)
-map-at f (x ∷ xs) zero a b h = refl
-map-at f (x ∷ xs) (suc i) a b h = map-at f xs i a b (omega arith)
-
--- ---- what upFrom lists is in its range
-
-pub upFrom-find : (a n p : ℕ) → List·Memᴰ p (upFrom a n) → (a ≤ p) × (p < a + n)
-unfolding upFrom
-upFrom-find a zero p i = absurd (List·Memᴰ·not-nil i)
-upFrom-find a (suc n) p i =
-    ⊎-elim (λ e. (omega arith, omega arith)) (λ j. let r = upFrom-find (suc a) n p j in (omega arith, omega arith)) (List·Memᴰ·cases-cons i)
 
 -- ---- reverseAux: the first list in reverse, then the second, and no element lost
 

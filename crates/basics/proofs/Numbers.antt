@@ -1,5 +1,6 @@
--- General laws of natural numbers.
-use Prim.Native.Nat.{ℕ, zero, suc, _+_, _-_, _*_, _≤_, _<_, max}
+-- General laws of natural numbers, for what `omega` does not find by itself: the cases of an order, of a maximum and of a small number, and the
+-- equality of two numbers or two tests from both directions.
+use Prim.Native.Nat.{ℕ, zero, suc, _≤_, _<_, max}
 use mathlib.Core.Path.{_≡_, refl, sym}
 use mathlib.Core.Logic.{_⊎_, inl, inr, ⊎-elim, by-cases}
 use native.Mathlib.Decide.{decLe}
@@ -26,7 +27,7 @@ known-below (suc a) (suc b) up down =
 -- two tests of order agree where the orders do
 pub ltb-same : (a b c d : ℕ) → (a < b → c < d) → (c < d → a < b) → ltb a b ≡ ltb c d
 ltb-same a b c d up down = ⊎-elim
-    (λ h. rw (le-ltb a b h) (sym (le-ltb c d (by-cases (decLe d c) (λ l. l) (λ l. absurd (omega (arith, down (omega arith))))))))
+    (λ h. rw (le-ltb a b h) (sym (le-ltb c d (⊎-elim (λ l. l) (λ l. absurd (omega (arith, down l))) (le-or-lt d c)))))
     (λ h. rw (lt-ltb a b h) (sym (lt-ltb c d (up h))))
     (le-or-lt b a)
 

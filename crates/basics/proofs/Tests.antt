@@ -1,7 +1,9 @@
 -- General laws of tests: a Bool is one of two, and what the connectives say.
+use Prim.Native.Nat.{_≤_}
 use mathlib.Core.Path.{_≡_, refl}
-use mathlib.Core.Bool.{Bool, true, false, _&&_, _||_, true≢false}
+use mathlib.Core.Bool.{Bool, true, false, cond, _&&_, _||_, true≢false}
 use mathlib.Core.Logic.{_⊎_, inl, inr}
+use native.Mathlib.Omega.{arith}
 use lib.Dec.{T}
 
 pub true-or-false : (b : Bool) → (b ≡ true) ⊎ (b ≡ false)
@@ -43,6 +45,13 @@ and-both false b h = absurd h
 pub both-and : (a b : Bool) → T a → T b → T (a && b)
 both-and true b h k = k
 both-and false b h k = absurd h
+
+-- a test that implies another counts for no more than it
+pub count-le : (a b : Bool) → (T a → T b) → cond a 1 0 ≤ cond b 1 0
+count-le true true h = omega arith
+count-le true false h = absurd (h tt)
+count-le false true h = omega arith
+count-le false false h = omega arith
 
 -- two tests that pass together are the same
 pub same-test : (a b : Bool) → (T a → T b) → (T b → T a) → a ≡ b

@@ -5,7 +5,7 @@ use mathlib.Core.Path.{_≡_, refl, sym, ap, _∙_}
 use mathlib.Core.Logic.{⊎-elim}
 use native.Mathlib.Omega.{arith}
 use lib.Dec.{ltb}
-use lib.IntN.{ℤ, pos, negsuc, _+ℤ_, _-ℤ_, natAbs}
+use lib.IntN.{ℤ, pos, negsuc, _+ℤ_}
 use lib.Signed.{mag, ltZ, leZ, _≤ℤ_, leZ-yes, ltZ-yes, ltZ-no, clashℤ}
 use borrow.Author.Tests.{lt-ltb, le-ltb}
 use mir.Syntax.{w16}
@@ -42,6 +42,10 @@ key-level n = ⊎-elim
 pub level-key : (v : ℤ) → mag v < 32768 → level (key v) ≡ v
 level-key (pos n) h = rw (level-positive (n + 32768) (omega arith)) (ap pos (omega arith))
 level-key (negsuc n) h = rw (le-ltb 32768 (suc n) h) (level-negative (32768 - suc n) (omega arith) ∙ ap negsuc (omega arith))
+
+-- a level and a key are in the order of keys
+pub ltZ-key : (v : ℤ) (t : ℕ) → mag v < 32768 → ltZ v (level t) ≡ ltb (key v) t
+ltZ-key v t h = ap (λ (u : ℤ). ltZ u (level t)) (sym (level-key v h)) ∙ ltZ-level (key v) t
 
 pub key-bound : (v : ℤ) → mag v < 32768 → key v ≤ 65535
 key-bound (pos n) h = omega arith

@@ -1,20 +1,19 @@
 -- The numbered step of a direction, as the walker finds it: by the direction's index in the table, and by the column and the row that it leads to.
-use Prim.Native.Nat.{ℕ, zero, suc, _+_, _*_, _/_, _%_, _≤_, _<_}
-use mathlib.Core.Path.{_≡_, refl, sym, ap, _∙_}
-use mathlib.Core.Bool.{Bool, true, false, cond, _&&_}
+use Prim.Native.Nat.{ℕ, _+_, _*_, _≤_, _<_}
+use mathlib.Core.Path.{_≡_, refl}
 use mathlib.Core.List.{List, [], _∷_, map}
 use mathlib.Core.Logic.{⊎-elim}
 use native.Mathlib.Omega.{arith}
-use lib.Dec.{ltb, eqb}
+use lib.Dec.{eqb}
 use lib.ListN.{length, getD, length-map, List·getD-eq-default}
-use lib.IntN.{ℤ, pos, negsuc, _+ℤ_}
+use lib.IntN.{ℤ, pos, negsuc}
 use borrow.Author.Tests.{lt-ltb, le-ltb}
 use Rattle.basics.specs.Lists.{firstOf}
 use Rattle.basics.proofs.Numbers.{le-or-lt, below-four}
 use Rattle.basics.proofs.Tests.{true-or-false}
 use Rattle.basics.proofs.Lists.{map-at}
 use Rattle.plate.specs.Directions.{Step, Direction, table, stepsIn, steps, indexOf, stepAt}
-use Rattle.plate.specs.Paths.{Reached, Reached.at, Reached.leaves, placeAt, stepFrom, numberedStep}
+use Rattle.plate.specs.Paths.{Reached.at, Reached.leaves, placeAt, stepFrom, numberedStep}
 use Rattle.plate.specs.Within.{within}
 
 -- ---- the direction, by its index

@@ -1,7 +1,7 @@
 -- What an accepted size says: both sides are 1 to 1,024, and there are at most 65,536 pixels.
 use Prim.Native.Nat.{ℕ, _*_, _≤_}
 use mathlib.Core.Path.{_≡_}
-use mathlib.Core.Bool.{Bool, true, false, _||_}
+use mathlib.Core.Bool.{false, _||_}
 use lib.Dec.{ltb, eqb}
 use borrow.Author.Tests.{ltb-false, eqb-false}
 use native.Mathlib.Omega.{arith}

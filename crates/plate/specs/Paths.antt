@@ -1,6 +1,6 @@
 -- Document 01, section 2: places, steps and paths on a plate of W columns and H rows. The sizes have no limit here.
 use Prim.Native.Nat.{ℕ, zero, suc, _+_, _-_, _*_, _/_, _%_}
-use mathlib.Core.Bool.{Bool, cond, _&&_, _||_}
+use mathlib.Core.Bool.{Bool, cond, _&&_}
 use mathlib.Core.List.{List, [], _∷_, map, flatMap}
 use lib.Dec.{ltb, eqb}
 use lib.ListN.{getD}

@@ -1,14 +1,15 @@
 -- Following a good walk pixel by pixel. At a pixel with m + 1 steps to go and j gaps left, a level t that can be reached is reached again at some
 -- neighbour: with as many gaps where the pixel itself is not below t, with one fewer where it is. At the lowest key every walk counts, so there room
 -- alone decides. On and back alike, by `Side`.
-use Prim.Native.Nat.{ℕ, zero, suc, _+_, _-_, _*_, _≤_, _<_, min, max}
-use mathlib.Core.Path.{_≡_, refl}
+use Prim.Native.Nat.{ℕ, zero, suc, _+_, _-_, _*_, _≤_, _<_}
+use mathlib.Core.Path.{_≡_}
 use mathlib.Core.Bool.{Bool}
-use mathlib.Core.List.{List, [], _∷_, List·Memᴰ}
+use mathlib.Core.List.{List, List·Memᴰ}
 use mathlib.Core.Logic.{⊎-elim}
 use native.Mathlib.Omega.{arith}
-use Rattle.basics.proofs.Numbers.{le-or-lt, le-max-split}
-use Rattle.theory.proofs.LevelSets.{best, best-find, best-mono, fewer, reach, reach-step, reach-start, reach-good, reach-more-gaps}
+use Rattle.basics.proofs.Numbers.{le-or-lt}
+use Rattle.theory.proofs.Maxima.{best, best-find, best-mono}
+use Rattle.theory.proofs.LevelSets.{fewer, reach, reach-step, reach-start, reach-good, reach-more-gaps}
 use Rattle.theory.proofs.Sides.{around, room, Side}
 
 module _ (next : ℕ → List ℕ) (g : ℕ → ℕ) (bounded : (p : ℕ) → g p ≤ 65535) (t : ℕ) where

@@ -3,13 +3,12 @@
 use Prim.Native.Nat.{ℕ, zero, suc, _≤_, _<_}
 use mathlib.Core.Path.{_≡_, ap, subst}
 use mathlib.Core.Bool.{Bool, true, false}
-use mathlib.Core.Logic.{_⊎_, inl, inr, ⊎-elim, by-cases}
-use native.Mathlib.Decide.{decLe}
+use mathlib.Core.Logic.{_⊎_, inl, inr, ⊎-elim}
 use native.Mathlib.Omega.{arith}
 use lib.Dec.{T}
 use lib.IntN.{ℤ}
 use lib.Signed.{mag, _≤ℤ_, _<ℤ_, clashℤ, ≤ℤ-refl}
-use Rattle.basics.proofs.Numbers.{le-or-lt}
+use Rattle.basics.proofs.Numbers.{le-or-lt, known-below}
 use Rattle.basics.proofs.Tests.{true-or-false, true-T}
 use Rattle.plate.specs.Levels.{lowest, level, key}
 use Rattle.plate.specs.Opening.{greatest, highest}
@@ -44,8 +43,15 @@ module _ (test : ℕ → Bool) where
   passing-not-above-greatest zero t h p = h
   passing-not-above-greatest (suc n) t h p =
       ⊎-elim (λ e. omega (arith, greatest-yes n e))
-      (λ e. by-cases (decLe t n) (λ l. omega (arith, greatest-no n e, passing-not-above-greatest n t l p))
-      (λ l. let i : t ≡ suc n = omega arith in absurd (subst T e (subst (λ (m : ℕ). T (test m)) i p)))) (true-or-false (test (suc n)))
+      (λ e. ⊎-elim (λ l. omega (arith, greatest-no n e, passing-not-above-greatest n t l p))
+      (λ l. let i : t ≡ suc n = omega arith in absurd (subst T e (subst (λ (m : ℕ). T (test m)) i p))) (le-or-lt t n)) (true-or-false (test (suc n)))
+
+  -- these characterise it: a number that passes, unless it is 0, and that no passing one up to n is above
+  pub greatest-is : (n v : ℕ) → v ≤ n → (1 ≤ v → T (test v)) → ((t : ℕ) → 1 ≤ t → t ≤ n → T (test t) → t ≤ v) → greatest test n ≡ v
+  greatest-is n v h passes top =
+      known-below (greatest test n) v
+      (λ t positive l. omega (arith, top (greatest test n) (omega arith) (greatest-not-above n) (greatest-passes n (omega arith))))
+      (λ t positive l. omega (arith, passing-not-above-greatest n v h (passes (omega arith))))
 
 -- ---- highest
 
@@ -67,6 +73,13 @@ module _ (test : ℤ → Bool) where
       let n = greatest (λ n. test (level n)) (key v) in
       ⊎-elim (λ (h : 1 ≤ n). inl (greatest-passes (λ n. test (level n)) (key v) h))
       (λ h. inr (let e : n ≡ 0 = omega arith in ap (λ (m : ℕ). level m) e)) (le-or-lt 1 n)
+
+  -- the highest level by its key
+  pub highest-is :
+      (v : ℤ) (n : ℕ) → n ≤ key v → (1 ≤ n → T (test (level n))) → ((t : ℕ) → 1 ≤ t → t ≤ key v → T (test (level t)) → t ≤ n) →
+      highest test v ≡ level n
+  unfolding highest
+  highest-is v n h passes top = ap (λ (m : ℕ). level m) (greatest-is (λ t. test (level t)) (key v) n h passes top)
 
   pub highest-passes : (v : ℤ) → lowest <ℤ highest test v → T (test (highest test v))
   highest-passes v h = ⊎-elim (λ p. p) (λ e. clashℤ h (rw e (≤ℤ-refl lowest))) (highest-passes-or-lowest v)

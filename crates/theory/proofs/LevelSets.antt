@@ -1,16 +1,17 @@
 -- Walks by level sets: the recursion that the engine computes, formula (3) of source 001 taken on keys, finds just the walks that are there.
 -- 'Some walk counts at t' is one number a pixel, `reach`, since a walk that counts at a key counts at every lower one; 0 also stands for 'no walk'.
--- Over any function `next`, forwards or backwards, and any keys of 16 bits.
+-- Over any function `next`, forwards or backwards, and any keys of 16 bits. At the end stands what a program that computes it uses.
 use Prim.Native.Nat.{ℕ, zero, suc, _+_, _≤_, _<_, min, max}
-use mathlib.Core.Path.{_≡_, refl, ap}
+use mathlib.Core.Path.{_≡_, refl}
 use mathlib.Core.Bool.{cond}
-use mathlib.Core.List.{List, [], _∷_, List·Memᴰ, List·Memᴰ·head, List·Memᴰ·tail}
+use mathlib.Core.List.{List, [], _∷_, List·Memᴰ}
 use mathlib.Core.Logic.{⊎-elim}
 use native.Mathlib.Omega.{arith}
 use lib.Dec.{ltb}
 use borrow.Author.Tests.{lt-ltb, le-ltb}
 use Rattle.basics.proofs.Numbers.{le-or-lt, le-max-split, known-below}
 use Rattle.theory.proofs.Walks.{Walk, Walk.stop, Walk.go}
+use Rattle.theory.proofs.Maxima.{best, best-find, best-keep, best-least, best-mono, best-same}
 
 -- 1 where the key a is below t
 unfoldable pub under : ℕ → ℕ → ℕ
@@ -20,11 +21,6 @@ under t a = cond (ltb a t) 1 0
 unfoldable pub lowPixels : (ℕ → ℕ) → ℕ → List ℕ → ℕ
 lowPixels g t [] = 0
 lowPixels g t (p ∷ path) = under t (g p) + lowPixels g t path
-
--- the greatest of g over some places, 0 where there is none
-unfoldable pub best : (ℕ → ℕ) → List ℕ → ℕ
-best g [] = 0
-best g (q ∷ qs) = max (g q) (best g qs)
 
 -- g at one gap fewer, 0 where there is none to spend
 unfoldable pub fewer : (ℕ → ℕ) → ℕ → ℕ
@@ -59,33 +55,6 @@ under-high t a h = rw (le-ltb a t h)
 
 pub under-le-one : (t a : ℕ) → under t a ≤ 1
 under-le-one t a = ⊎-elim (λ h. omega (arith, under-high t a h)) (λ h. omega (arith, under-low t a h)) (le-or-lt t a)
-
-pub best-find : (g : ℕ → ℕ) (t : ℕ) (qs : List ℕ) → 1 ≤ t → t ≤ best g qs → (q : ℕ) × List·Memᴰ q qs × (t ≤ g q)
-unfolding best
-best-find g t [] positive h = absurd (omega arith)
-best-find g t (q ∷ qs) positive h =
-    ⊎-elim (λ a. (q, List·Memᴰ·head refl, a))
-    (λ b. let r = best-find g t qs positive b in (r .0, List·Memᴰ·tail (r .1), r .2))
-    (le-max-split t (g q) (best g qs) h)
-
-pub best-keep : (g : ℕ → ℕ) (t q : ℕ) {qs : List ℕ} → List·Memᴰ q qs → t ≤ g q → t ≤ best g qs
-unfolding best
-best-keep g t q (List·Memᴰ·head e) h = omega (arith, ap g e)
-best-keep g t q (List·Memᴰ·tail i) h = omega (arith, best-keep g t q i h)
-
-pub best-least : (g : ℕ → ℕ) (b : ℕ) (qs : List ℕ) → ((q : ℕ) → List·Memᴰ q qs → g q ≤ b) → best g qs ≤ b
-unfolding best
-best-least g b [] h = omega arith
-best-least g b (q ∷ qs) h =
-    omega (arith, h q (List·Memᴰ·head refl), best-least g b qs (λ r i. h r (List·Memᴰ·tail i)))
-
-pub best-mono : (g h : ℕ → ℕ) → ((q : ℕ) → g q ≤ h q) → (qs : List ℕ) → best g qs ≤ best h qs
-best-mono g h le qs = best-least g (best h qs) qs (λ q i. best-keep h (g q) q i (le q))
-
-pub best-same : (g h : ℕ → ℕ) (qs : List ℕ) → ((q : ℕ) → List·Memᴰ q qs → g q ≡ h q) → best g qs ≡ best h qs
-unfolding best
-best-same g h [] same = refl
-best-same g h (q ∷ qs) same = rw (same q (List·Memᴰ·head refl), best-same g h qs (λ r i. same r (List·Memᴰ·tail i)))
 
 fewer-find : (g : ℕ → ℕ) (t j : ℕ) → 1 ≤ t → t ≤ fewer g j → (i : ℕ) × (j ≡ suc i) × (t ≤ g i)
 unfolding fewer

@@ -1,23 +1,30 @@
-pub mod WorkedPlates
+-- steps and walks
+pub mod Steps
+pub mod Moves
 pub mod Walks
 pub mod Cutting
-pub mod Steps
+-- the paths of the plate
 pub mod Listed
 pub mod Reversal
 pub mod Shorter
-pub mod Moves
 pub mod Ranks
 pub mod Span
 pub mod Sides
+-- opening and closing
 pub mod Highest
 pub mod Admission
 pub mod Opening
 pub mod Idempotent
 pub mod Mirror
+-- the decomposition
+pub mod Maxima
 pub mod LevelSets
 pub mod Splitting
 pub mod Decomposition
 pub mod Terms
+-- the trace
 pub mod Following
 pub mod Recorded
 pub mod Trace
+-- the worked plates
+pub mod WorkedPlates

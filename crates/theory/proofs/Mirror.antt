@@ -1,9 +1,9 @@
 -- Both modes at once. With `turned s`, which leaves a level as it is in mode 0 and mirrors it else, filtering is: turn every level, open, turn
 -- back. So each law of the opening is one of the filter, said of turned levels.
 use Prim.Native.Nat.{ℕ, _*_, _<_}
-use mathlib.Core.Path.{_≡_, refl, sym, ap, fun-ext, _∙_}
+use mathlib.Core.Path.{_≡_, sym, ap, fun-ext, _∙_}
 use mathlib.Core.Bool.{true, false, cond}
-use mathlib.Core.List.{List, [], _∷_, map, map-id}
+use mathlib.Core.List.{List, map, map-id}
 use mathlib.Core.Logic.{⊎-elim}
 use native.Mathlib.Omega.{arith}
 use lib.Dec.{T, eqb}
@@ -11,7 +11,7 @@ use lib.ListN.{length, length-map}
 use lib.IntN.{ℤ}
 use lib.Signed.{mag, _≤ℤ_}
 use Rattle.basics.proofs.Tests.{true-or-false}
-use Rattle.basics.proofs.Lists.{map-at}
+use Rattle.basics.proofs.Lists.{map-undone, map-at}
 use Rattle.plate.specs.Levels.{lowest, mirror}
 use Rattle.plate.specs.Paths.{crossed}
 use Rattle.plate.specs.Opening.{levelAt, openedAt, opened, closed, filtered}
@@ -46,10 +46,6 @@ module _ (s : Setting) where
   pub turned-reverses : eqb (s .mode) 0 ≡ false → {v w : ℤ} → v ≤ℤ w → turned s w ≤ℤ turned s v
   unfolding turned
   turned-reverses e h = rw e (mirror-reverses h)
-
-  all-turned : (f : List ℤ) → map (turned s) (map (turned s) f) ≡ f
-  all-turned [] = refl
-  all-turned (v ∷ f) = rw (turned-turned v, all-turned f)
 
   -- the level at a place of the turned plate
   pub levelAt-turned : (f : List ℤ) (x : ℕ) → x < length f → levelAt (map (turned s) f) x ≡ turned s (levelAt f x)
@@ -93,7 +89,7 @@ module _ (s : Setting) where
         let g = opened s W H (map (turned s) f) in
         let twice : filtered s W H (map (turned s) g) ≡ map (turned s) g =
         filtered-turned (map (turned s) g)
-        ∙ ap (λ (h : List ℤ). map (turned s) (opened s W H h)) (all-turned g)
+        ∙ ap (λ (h : List ℤ). map (turned s) (opened s W H h)) (map-undone (turned s) turned-turned g)
         ∙ ap (map (turned s)) (opened-idempotent s W H (map (turned s) f) (turned-levels f l)) in
         rw (filtered-turned f) twice
 

@@ -5,13 +5,12 @@ use mathlib.Core.Path.{_≡_, sym, ap}
 use mathlib.Core.List.{List, List·Memᴰ}
 use mathlib.Core.Logic.{⊎-elim}
 use native.Mathlib.Omega.{arith}
-use lib.Arith.{digits-lt, digits-div, digits-mod}
 use lib.IntN.{ℤ, pos, negsuc, _+ℤ_, pos-ne-negsuc}
 use borrow.Author.Tests.{lt-ltb, le-ltb}
 use Rattle.basics.proofs.Numbers.{le-or-lt}
 use Rattle.plate.specs.Directions.{Step}
-use Rattle.plate.specs.Paths.{Reached.at, stepFrom, reachedBy}
-use Rattle.theory.proofs.Steps.{lands, stepped, landed-column, landed-row, column-below, row-below, reached-find, reached-keep}
+use Rattle.plate.specs.Paths.{reachedBy}
+use Rattle.theory.proofs.Steps.{stepped, step-to, landed-column, landed-row, column-below, row-below, reached-find, reached-keep}
 
 abbrev pub gain : ℤ → ℕ
 gain (pos n) = n
@@ -65,11 +64,7 @@ module _ (W H : ℕ) (ss : List Step) where
       })
 
   pub move-reached : {c r d e : ℕ} → Move W H ss c r d e → List·Memᴰ (e * W + d) (reachedBy W H ss (r * W + c))
-  unfolding stepFrom
   move-reached {c} {r} {d} {e} m =
-      let x : pos c +ℤ m .step .column ≡ pos d = change c (m .step .column) d (m .columns) in
-      let y : pos r +ℤ m .step .row ≡ pos e = change r (m .step .row) e (m .rows) in
-      let on : r * W + c < W * H = omega (arith, digits-lt (m .from-row) (m .from-column)) in
       reached-keep W H (r * W + c) (e * W + d) (m .is-step)
-      (rw
-      (lt-ltb (r * W + c) (W * H) on, digits-mod r (m .from-column), digits-div r (m .from-column), x, y, lands W H d e (m .to-column) (m .to-row)))
+      (step-to W H (m .step) c r d e (m .from-column) (m .from-row) (m .to-column) (m .to-row)
+      (change c (m .step .column) d (m .columns)) (change r (m .step .row) e (m .rows)))

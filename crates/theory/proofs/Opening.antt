@@ -1,30 +1,26 @@
 -- The laws of the opening. The opened level is characterised by two of them: it is attained by a path that counts, and no level that counts is
 -- above it. Every later proof uses these in place of the definition's text.
-use Prim.Native.Nat.{ℕ, zero, suc, _*_, _<_}
+use Prim.Native.Nat.{ℕ, _*_, _≤_, _<_}
 use mathlib.Core.Path.{_≡_, sym, ap, subst, _∙_}
 use mathlib.Core.Bool.{false, _&&_}
-use mathlib.Core.List.{List, List·Memᴰ, List·Memᴰ·not-nil, List·Memᴰ·cases-cons, List·Memᴰ·eq-of-singleton}
+use mathlib.Core.List.{List, List·Memᴰ}
 use mathlib.Core.Logic.{_⊎_, inl, inr, ⊎-elim}
-use native.Mathlib.Nat.{zero-add}
 use native.Mathlib.Omega.{arith}
 use lib.Dec.{T}
 use lib.ListN.{length, length-map, List·getD-eq-default}
 use lib.IntN.{ℤ}
 use lib.Signed.{mag, _≤ℤ_}
-use Rattle.basics.specs.Lists.{upFrom}
 use Rattle.basics.proofs.Numbers.{le-or-lt}
 use Rattle.basics.proofs.Tests.{and-both, both-and}
-use Rattle.basics.proofs.Lists.{any-find, any-keep, flatMap-find, upFrom-length, upFrom-at, upFrom-find, map-at}
+use Rattle.basics.proofs.Lists.{any-find, any-keep, map-at}
 use Rattle.basics.proofs.Order.{≤ℤ-trans}
-use Rattle.plate.specs.Levels.{lowest}
-use Rattle.plate.specs.Directions.{chosen}
-use Rattle.plate.specs.Paths.{places, next, pathsFrom, pathsIn, paths, through, crossed}
+use Rattle.plate.specs.Levels.{lowest, level, key}
+use Rattle.plate.specs.Paths.{places, paths, through, crossed}
 use Rattle.plate.specs.Opening.{levelAt, admits, kept, openedAt, opened}
 use Rattle.plate.specs.declared.setting.Setting.{Setting}
 use Rattle.plate.proofs.Keys.{lowest-le}
-use Rattle.theory.proofs.Steps.{next-on}
-use Rattle.theory.proofs.Walks.{Walk, Walk.stop, Walk.go, path-walk, through-mem, mem-through}
-use Rattle.theory.proofs.Highest.{highest-size, highest-not-above, highest-passes-or-lowest, passing-not-above-highest}
+use Rattle.theory.proofs.Listed.{places-length, places-at, through-mem, mem-through, listed-on, crossed-find, crossed-keep}
+use Rattle.theory.proofs.Highest.{highest-size, highest-not-above, highest-passes-or-lowest, passing-not-above-highest, highest-is}
 use Rattle.theory.proofs.Admission.{admitted-antitone, admitted-monotone, admitted-lowest}
 
 -- every level has 16 bits
@@ -44,25 +40,6 @@ pub record Counts (s : Setting) (W H : ℕ) (f : List ℤ) (x : ℕ) (t : ℤ) :
   pub listed : List·Memᴰ path (paths W H (s .directions) (s .length))
   pub crosses : List·Memᴰ x path
   pub admitted : T (admits s f t path)
-
--- ---- the pixels of a listed path are places of the plate
-
-pub walk-on : (W H bit : ℕ) {m p : ℕ} {path : List ℕ} → Walk (next W H bit) m p path → p < W * H → (q : ℕ) → List·Memᴰ q path → q < W * H
-walk-on W H bit (stop {p}) h q i = let e : q ≡ p = List·Memᴰ·eq-of-singleton i in omega arith
-walk-on W H bit (go {m} {p} {q = p′} e w) h q i =
-    ⊎-elim (λ a. omega arith) (λ j. walk-on W H bit w (next-on W H bit p p′ e .1) q j) (List·Memᴰ·cases-cons i)
-
-path-on : (W H bit L p : ℕ) (path : List ℕ) → List·Memᴰ path (pathsFrom W H bit L p) → p < W * H → (q : ℕ) → List·Memᴰ q path → q < W * H
-unfolding pathsFrom
-path-on W H bit zero p path i = absurd (List·Memᴰ·not-nil i)
-path-on W H bit (suc m) p path i = walk-on W H bit (path-walk W H bit m p path i)
-
-pub listed-on : (W H set L : ℕ) (path : List ℕ) → List·Memᴰ path (paths W H set L) → (q : ℕ) → List·Memᴰ q path → q < W * H
-unfolding paths pathsIn places
-listed-on W H set L path i =
-    let d = flatMap-find (pathsIn W H L) (chosen set) path i in
-    let a = flatMap-find (pathsFrom W H (d .0) L) (upFrom 0 (W * H)) path (d .2) in
-    path-on W H (d .0) L (a .0) path (a .2) (omega (arith, upFrom-find 0 (W * H) (a .0) (a .1) .1))
 
 module _ (s : Setting) (W H : ℕ) where
   -- ---- paths that count
@@ -104,14 +81,13 @@ module _ (s : Setting) (W H : ℕ) where
   -- ---- the opened plate, level by level
 
   pub opened-length : (f : List ℤ) → length (opened s W H f) ≡ W * H
-  unfolding opened places
-  opened-length f = length-map (upFrom 0 (W * H)) (openedAt s W H f) ∙ upFrom-length 0 (W * H)
+  unfolding opened
+  opened-length f = length-map (places W H) (openedAt s W H f) ∙ places-length W H
 
   pub levelAt-opened : (f : List ℤ) (x : ℕ) → x < W * H → levelAt (opened s W H f) x ≡ openedAt s W H f x
-  unfolding opened places
+  unfolding opened
   levelAt-opened f x h =
-      let on : x < length (upFrom 0 (W * H)) = omega (arith, upFrom-length 0 (W * H)) in
-      map-at (openedAt s W H f) (upFrom 0 (W * H)) x 0 lowest on ∙ ap (openedAt s W H f) (upFrom-at 0 (W * H) x 0 h ∙ zero-add x)
+      map-at (openedAt s W H f) (places W H) x 0 lowest (omega (arith, places-length W H)) ∙ ap (openedAt s W H f) (places-at W H x 0 h)
 
   pub openedAt-size : (f : List ℤ) → Levels f → (x : ℕ) → mag (openedAt s W H f x) < 32768
   unfolding openedAt
@@ -135,21 +111,28 @@ module _ (s : Setting) (W H : ℕ) where
       ⊎-elim (λ h. inl (kept-counts f x _ h)) inr (highest-passes-or-lowest (kept s (paths W H (s .directions) (s .length)) f x) (levelAt f x))
 
   pub opened-attained : (f : List ℤ) → Levels f → (x : ℕ) → T (crossed W H (s .directions) (s .length) x) → Counts s W H f x (openedAt s W H f x)
-  unfolding crossed
   opened-attained f l x h =
       ⊎-elim (λ c. c)
-      (λ e. let r = any-find (through x) (paths W H (s .directions) (s .length)) h in
-      record { path = r .0; listed = r .1; crosses = through-mem x (r .0) (r .2); admitted = rw e (admitted-lowest s f (r .0) (l .size)) })
+      (λ e. let r = crossed-find W H (s .directions) (s .length) x h in
+      record { path = r .0; listed = r .1; crosses = r .2; admitted = rw e (admitted-lowest s f (r .0) (l .size)) })
       (opened-counts-or-lowest f x)
 
   pub opened-highest : (f : List ℤ) → Levels f → (x : ℕ) (t : ℤ) → mag t < 32768 → t ≤ℤ levelAt f x → Counts s W H f x t → t ≤ℤ openedAt s W H f x
   unfolding openedAt
   opened-highest f l x t st h c = passing-not-above-highest _ (levelAt f x) t (l .size x) st h (counts-kept f x t c)
 
+  -- the same two by keys: n is the key of the opened level
+  pub opened-is :
+      (f : List ℤ) (x n : ℕ) → n ≤ key (levelAt f x) → (1 ≤ n → Counts s W H f x (level n)) →
+      ((t : ℕ) → 1 ≤ t → t ≤ key (levelAt f x) → Counts s W H f x (level t) → t ≤ n) → openedAt s W H f x ≡ level n
+  unfolding openedAt
+  opened-is f x n h counts top =
+      highest-is (kept s (paths W H (s .directions) (s .length)) f x) (levelAt f x) n h (λ positive. counts-kept f x (level n) (counts positive))
+      (λ t positive low k. top t positive low (kept-counts f x (level t) k))
+
   pub opened-uncrossed : (f : List ℤ) (x : ℕ) → crossed W H (s .directions) (s .length) x ≡ false → openedAt s W H f x ≡ lowest
-  unfolding crossed
   opened-uncrossed f x e =
-      ⊎-elim (λ c. absurd (subst T e (any-keep (through x) (c .path) (c .listed) (mem-through x (c .crosses))))) (λ i. i) (opened-counts-or-lowest f x)
+      ⊎-elim (λ c. absurd (subst T e (crossed-keep W H (s .directions) (s .length) (c .listed) (c .crosses)))) (λ i. i) (opened-counts-or-lowest f x)
 
   pub opened-monotone :
       (f g : List ℤ) → Levels f → Levels g → ((p : ℕ) → p < W * H → levelAt f p ≤ℤ levelAt g p) →

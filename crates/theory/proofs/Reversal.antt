@@ -1,19 +1,20 @@
--- A path walked backwards is a path of the negated steps. A single step turns round because adding and then taking away the same change gives the
--- column and the row back; a walk turns round step by step.
-use Prim.Native.Nat.{ℕ, suc, _*_, _/_, _%_, _<_}
+-- A path walked backwards is a path of the negated steps. A single step turns round because what it adds to a column or a row the negated step takes
+-- away; a walk turns round step by step.
+use Prim.Native.Nat.{ℕ, zero, suc, _*_, _<_}
 use mathlib.Core.Path.{_≡_, refl, sym, ap, _∙_}
-use mathlib.Core.List.{List, [], _∷_, map, reverse, List·Memᴰ}
+use mathlib.Core.List.{List, [], map, reverse, List·Memᴰ}
 use native.Mathlib.Nat.{div-add-mod'}
-use lib.IntN.{ℤ, pos, _+ℤ_, negℤ, negℤ-negℤ, +ℤ-negℤ-cancel}
-use borrow.Author.Tests.{lt-ltb}
-use Rattle.basics.proofs.Lists.{map-keep, reverseAux-left}
+use lib.IntN.{ℤ, pos, negsuc, negℤ, negℤ-negℤ}
+use Rattle.basics.proofs.Lists.{map-keep, map-undone, reverseAux-left}
 use Rattle.plate.specs.Directions.{Step, steps}
-use Rattle.plate.specs.Paths.{Reached.at, stepFrom, reachedBy, next, pathsIn}
+use Rattle.plate.specs.Paths.{reachedBy, next, pathsIn}
+use Rattle.theory.proofs.Steps.{reached-on}
+use Rattle.theory.proofs.Moves.{gain, loss, Move, reached-move, move-reached}
 use Rattle.theory.proofs.Walks.{Walk, WalkOf, walk-first}
 use Rattle.theory.proofs.Cutting.{reversed}
-use Rattle.theory.proofs.Steps.{lands, stepped, landed-on, landed-column, landed-row, column-below, row-below, reached-find, reached-keep}
 use Rattle.theory.proofs.Listed.{listed-walk, walk-listed, walk-started}
 
+-- a step with both changes negated
 unfoldable pub minus : Step → Step
 minus s = record { column = negℤ (s .column); row = negℤ (s .row) }
 
@@ -21,29 +22,36 @@ minus s = record { column = negℤ (s .column); row = negℤ (s .row) }
 unfoldable pub back : ℕ → ℕ → ℕ → ℕ → List ℕ
 back W H bit q = reachedBy W H (map minus (steps bit)) q
 
-turn-step : (W H : ℕ) (s : Step) (p q : ℕ) → stepFrom W H p s ≡ at q → stepFrom W H q (minus s) ≡ at p
-unfolding stepFrom minus
-turn-step W H s p q e =
-    let hp = stepped W H s p q e .0 in
-    let l = stepped W H s p q e .1 in
-    let bc : pos (l .col) +ℤ negℤ (s .column) ≡ pos (p % W) =
-    ap (λ (z : ℤ). z +ℤ negℤ (s .column)) (sym (l .is-col)) ∙ +ℤ-negℤ-cancel (pos (p % W)) (s .column) in
-    let br : pos (l .row) +ℤ negℤ (s .row) ≡ pos (p / W) =
-    ap (λ (z : ℤ). z +ℤ negℤ (s .row)) (sym (l .is-row)) ∙ +ℤ-negℤ-cancel (pos (p / W)) (s .row) in
-    rw
-    (lt-ltb q (W * H) (landed-on l), landed-column l, landed-row l, bc, br, lands W H (p % W) (p / W) (column-below W H p hp) (row-below W H p hp), div-add-mod' p W)
+-- what a change adds, the negated change takes away
+gain-minus : (z : ℤ) → gain (negℤ z) ≡ loss z
+gain-minus (pos zero) = refl
+gain-minus (pos (suc n)) = refl
+gain-minus (negsuc n) = refl
+
+loss-minus : (z : ℤ) → loss (negℤ z) ≡ gain z
+loss-minus z = sym (gain-minus (negℤ z)) ∙ ap (λ (y : ℤ). gain y) (negℤ-negℤ z)
+
+turn-move : {W H c r d e : ℕ} {ss : List Step} → Move W H ss c r d e → Move W H (map minus ss) d e c r
+unfolding minus
+turn-move m =
+    record {
+      step = minus (m .step);
+      is-step = map-keep minus (m .is-step);
+      columns = rw (gain-minus (m .step .column), loss-minus (m .step .column)) (sym (m .columns));
+      rows = rw (gain-minus (m .step .row), loss-minus (m .step .row)) (sym (m .rows));
+      from-column = m .to-column;
+      from-row = m .to-row;
+      to-column = m .from-column;
+      to-row = m .from-row;
+    }
 
 turn-by : (W H : ℕ) (ss : List Step) (p q : ℕ) → List·Memᴰ q (reachedBy W H ss p) → List·Memᴰ p (reachedBy W H (map minus ss) q)
 turn-by W H ss p q i =
-    let r = reached-find W H ss p q i in reached-keep W H q p (map-keep minus (r .1)) (turn-step W H (r .0) p q (r .2))
+    rw (div-add-mod' p W, div-add-mod' q W) at (move-reached W H (map minus ss) (turn-move (reached-move W H ss p q i)))
 
 minus-minus : (s : Step) → minus (minus s) ≡ s
 unfolding minus
 minus-minus s = simp negℤ-negℤ
-
-all-minus : (ss : List Step) → map minus (map minus ss) ≡ ss
-all-minus [] = refl
-all-minus (s ∷ ss) = rw (minus-minus s, all-minus ss)
 
 pub turn : (W H bit p q : ℕ) → List·Memᴰ q (next W H bit p) → List·Memᴰ p (back W H bit q)
 unfolding next back
@@ -51,7 +59,12 @@ turn W H bit p q i = turn-by W H (steps bit) p q i
 
 pub turn-back : (W H bit p q : ℕ) → List·Memᴰ q (back W H bit p) → List·Memᴰ p (next W H bit q)
 unfolding next back
-turn-back W H bit p q i = rw (all-minus (steps bit)) at (turn-by W H (map minus (steps bit)) p q i)
+turn-back W H bit p q i = rw (map-undone minus minus-minus (steps bit)) at (turn-by W H (map minus (steps bit)) p q i)
+
+-- a step back starts and ends on the plate
+pub back-on : (W H bit p q : ℕ) → List·Memᴰ q (back W H bit p) → (p < W * H) × (q < W * H)
+unfolding back
+back-on W H bit p q i = reached-on W H (map minus (steps bit)) p q i
 
 -- ---- whole paths: a path walked backwards, from its last pixel to its first, is a path of the negated steps
 

@@ -1,6 +1,6 @@
 -- A path contains a shorter one through any of its pixels. From a walk through x its first pixels are dropped until x is the first one or enough
 -- are gone; the rest is dropped from the end.
-use Prim.Native.Nat.{ℕ, zero, suc, _+_, _*_, _≤_, _<_}
+use Prim.Native.Nat.{ℕ, zero, suc, _*_, _≤_, _<_}
 use mathlib.Core.Path.{_≡_, sym, ap}
 use mathlib.Core.List.{List, [], _∷_, _++_, tail, append-nil, List·Memᴰ, List·Memᴰ·head, List·Memᴰ·tail, Memᴰ·append-left, Memᴰ·append-right}
 use mathlib.Core.Logic.{⊎-elim}
@@ -8,8 +8,8 @@ use native.Mathlib.Omega.{arith}
 use lib.Dec.{T}
 use Rattle.basics.proofs.Numbers.{le-or-lt}
 use Rattle.plate.specs.Paths.{next, pathsIn, through}
-use Rattle.theory.proofs.Walks.{Walk, Walk.stop, Walk.go, walk-first, walk-starts, through-mem, mem-through}
-use Rattle.theory.proofs.Listed.{Listed, listed-walk, walk-listed, walk-stays}
+use Rattle.theory.proofs.Walks.{Walk, Walk.stop, Walk.go, walk-first, walk-starts}
+use Rattle.theory.proofs.Listed.{through-mem, mem-through, Listed, listed-walk, walk-listed, walk-stays}
 
 -- the first k steps of a walk from p with the pixels ps
 pub record Beginning (next : ℕ → List ℕ) (k p : ℕ) (ps : List ℕ) : Type 0 where

@@ -1,12 +1,12 @@
 -- Walking on and walking back, as one. A side has the places that a step leads to, how many steps its longest walk from a pixel has (`room`), and how
 -- many the longest walk of the other side has (`other`). Whatever is shown of a side holds of both.
 use Prim.Native.Nat.{ℕ, zero, suc, _+_, _-_, _*_, _≤_, _<_}
-use mathlib.Core.Path.{_≡_, refl}
-use mathlib.Core.Bool.{Bool, true, false, cond}
+use mathlib.Core.Path.{_≡_}
+use mathlib.Core.Bool.{Bool, true, false}
 use mathlib.Core.List.{List, [], _∷_, List·Memᴰ}
 use native.Mathlib.Omega.{arith}
 use Rattle.plate.specs.Paths.{next, span}
-use Rattle.theory.proofs.Walks.{Walk, Walk.stop, Walk.go, WalkFrom, step-first}
+use Rattle.theory.proofs.Walks.{Walk, Walk.stop, WalkFrom, step-first}
 use Rattle.theory.proofs.Steps.{next-on}
 use Rattle.theory.proofs.Reversal.{back, turn-back}
 use Rattle.theory.proofs.Ranks.{rank, bits, Ranked, ranked}

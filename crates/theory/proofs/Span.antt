@@ -7,15 +7,15 @@ use mathlib.Core.List.{List, [], _∷_, tail, List·Memᴰ}
 use native.Mathlib.Omega.{arith}
 use lib.Dec.{T, leb, leb→le, le→leb}
 use Rattle.basics.specs.Lists.{any}
-use Rattle.basics.proofs.Lists.{any-find, any-keep, flatMap-find, flatMap-keep, keep-find, reverseAux-right}
+use Rattle.basics.proofs.Lists.{any-find, any-keep, keep-find, reverseAux-right}
 use Rattle.basics.proofs.Tests.{same-test}
 use Rattle.plate.specs.Directions.{member, chosen}
-use Rattle.plate.specs.Paths.{next, pathsIn, paths, through, crossed, span}
-use Rattle.theory.proofs.Walks.{Walk, Walk.stop, Walk.go, WalkFrom, walk-first, step-first, mem-through}
+use Rattle.plate.specs.Paths.{next, pathsIn, through, crossed, span}
+use Rattle.theory.proofs.Walks.{Walk, Walk.stop, Walk.go, WalkFrom, walk-first, step-first}
 use Rattle.theory.proofs.Steps.{next-on}
 use Rattle.theory.proofs.Cutting.{join}
-use Rattle.theory.proofs.Listed.{listed-walk, walk-listed, walk-started}
-use Rattle.theory.proofs.Reversal.{back, turn-back}
+use Rattle.theory.proofs.Listed.{through-mem, mem-through, listed-walk, walk-listed, walk-started, paths-find, paths-keep, crossed-find, crossed-keep}
+use Rattle.theory.proofs.Reversal.{back, back-on, turn-back}
 use Rattle.theory.proofs.Ranks.{rank, bits, Ranked, ranked}
 
 -- ---- over any direction with ranks: how many steps lead on from a pixel, and how many lead to it
@@ -39,8 +39,7 @@ module _ (W H bit : ℕ) (R : Ranked W H bit) where
   back-exists zero p h l = record { pixels = p ∷ []; walk = stop }
   back-exists (suc m) p h l =
       let r = R .rank-back p h (omega arith) in
-      let i = next-on W H bit (r .0) p (turn-back W H bit p (r .0) (r .1)) in
-      step-first (r .1) (back-exists m (r .0) (i .0) (omega arith))
+      step-first (r .1) (back-exists m (r .0) (back-on W H bit p (r .0) (r .1) .1) (omega arith))
 
   -- a steps to x and b steps on from there, as one listed path
   meet : {a b x : ℕ} → x < W * H → WalkFrom (back W H bit) a x → WalkFrom (next W H bit) b x → T (any (through x) (pathsIn W H (suc (b + a)) bit))
@@ -63,12 +62,13 @@ module _ (W H : ℕ) where
   span-through bit zero x i h o l = absurd (omega arith)
   span-through bit (suc m) x i h o l = through-exists W H bit (ranked W H bit i) m x h (omega arith)
 
+  pub path-fits : (bit L : ℕ) (ps : List ℕ) → List·Memᴰ bit bits → List·Memᴰ ps (pathsIn W H L bit) → L ≤ span W H bit
+  path-fits bit zero ps i j = omega arith
+  path-fits bit (suc m) ps i j =
+      let w = listed-walk W H bit m ps j in omega (arith, walk-fits W H bit (ranked W H bit i) (w .start<) (w .walk))
+
   pub through-span : (bit L x : ℕ) → List·Memᴰ bit bits → T (any (through x) (pathsIn W H L bit)) → L ≤ span W H bit
-  through-span bit zero x i t = omega arith
-  through-span bit (suc m) x i t =
-      let f = any-find (through x) (pathsIn W H (suc m) bit) t in
-      let w = listed-walk W H bit m (f .0) (f .1) in
-      omega (arith, walk-fits W H bit (ranked W H bit i) (w .start<) (w .walk))
+  through-span bit L x i t = let f = any-find (through x) (pathsIn W H L bit) t in path-fits bit L (f .0) i (f .1)
 
 -- a direction of the set whose span is at least L
 pub record Spans (W H set L : ℕ) : Type 0 where
@@ -82,21 +82,15 @@ chosen-bits set bit i = keep-find (member set) bit bits i .0
 
 module _ (W H set L x : ℕ) where
   pub crossed-spans : T (crossed W H set L x) → Spans W H set L
-  unfolding crossed paths
   crossed-spans t =
-      let f = any-find (through x) (paths W H set L) t in
-      let g = flatMap-find (pathsIn W H L) (chosen set) (f .0) (f .1) in
-      record {
-        bit = g .0;
-        in-set = g .1;
-        long = through-span W H (g .0) L x (chosen-bits set (g .0) (g .1)) (any-keep (through x) (f .0) (g .2) (f .2));
-      }
+      let f = crossed-find W H set L x t in
+      let g = paths-find W H set L (f .0) (f .1) in
+      record { bit = g .0; in-set = g .1; long = path-fits W H (g .0) L (f .0) (chosen-bits set (g .0) (g .1)) (g .2) }
 
   pub spans-crossed : x < W * H → 1 ≤ L → Spans W H set L → T (crossed W H set L x)
-  unfolding crossed paths
   spans-crossed h o s =
       let f = any-find (through x) (pathsIn W H L (s .bit)) (span-through W H (s .bit) L x (chosen-bits set (s .bit) (s .in-set)) h o (s .long)) in
-      any-keep (through x) (f .0) (flatMap-keep (pathsIn W H L) (f .0) (s .in-set) (f .1)) (f .2)
+      crossed-keep W H set L (paths-keep W H set L (s .in-set) (f .1)) (through-mem x (f .0) (f .2))
 
   -- so whether a path crosses x is decided by numbers alone
   pub crossed-by-span : x < W * H → 1 ≤ L → crossed W H set L x ≡ any (λ bit. leb L (span W H bit)) (chosen set)

@@ -1,12 +1,12 @@
 -- A walk through x with few low pixels, by its two halves: l steps to x and the others from x on. The pixel x is in both halves, and where t ≤ g x
 -- it is low in neither, so that the counts add up.
 use Prim.Native.Nat.{ℕ, _+_, _-_, _≤_}
-use mathlib.Core.Path.{_≡_, refl, ap, _∙_}
+use mathlib.Core.Path.{_≡_, ap, _∙_}
 use mathlib.Core.List.{List, [], _∷_, tail, reverseAux, List·Memᴰ}
 use native.Mathlib.Omega.{arith}
 use Rattle.basics.proofs.Lists.{reverseAux-right}
-use Rattle.theory.proofs.Walks.{Walk, Walk.stop, Walk.go, walk-first}
-use Rattle.theory.proofs.Cutting.{Halves as Cut, split as cut, join}
+use Rattle.theory.proofs.Walks.{Walk, walk-first, walk-starts}
+use Rattle.theory.proofs.Cutting.{Cut, cut, join}
 use Rattle.theory.proofs.LevelSets.{under, under-high, lowPixels, reach, reach-good, good-reach}
 
 -- some walk of m steps goes through x and has at most k pixels below t
@@ -34,8 +34,7 @@ module _ (g : ℕ → ℕ) (t : ℕ) where
 
   low-first : {next : ℕ → List ℕ} {m p : ℕ} {ps : List ℕ} → Walk next m p ps → lowPixels g t ps ≡ under t (g p) + lowPixels g t (tail ps)
   unfolding lowPixels
-  low-first stop = refl
-  low-first (go e w) = refl
+  low-first w = ap (lowPixels g t) (walk-starts w)
 
   -- two halves that meet at x count x twice
   low-joined :

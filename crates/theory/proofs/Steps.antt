@@ -1,4 +1,5 @@
--- What a step says: where it starts and where it lands, in columns and rows, and that both are on the plate.
+-- What a step says: it leads from a column and a row of the plate to a column and a row of the plate, and what a list of steps reaches, one of
+-- them reaches. Nothing else opens `placeAt`, `stepFrom`, `arrivals` and `reachedBy`.
 use Prim.Native.Nat.{ℕ, zero, suc, _+_, _*_, _/_, _%_, _<_}
 use mathlib.Core.Path.{_≡_, refl, sym, ap, _∙_}
 use mathlib.Core.Bool.{Bool, true, false, cond, _&&_}
@@ -49,6 +50,15 @@ stepped W H s p q e = go (ltb p (W * H)) refl e
     go : (b : Bool) → ltb p (W * H) ≡ b → cond b (placeAt W H (pos (p % W) +ℤ s .column) (pos (p / W) +ℤ s .row)) leaves ≡ at q → (p < W * H) × Landed W H (pos (p % W) +ℤ s .column) (pos (p / W) +ℤ s .row) q
     go true eb e′ = (ltb-true p (W * H) eb, landed W H _ _ q e′)
     go false eb e′ = clash e′
+
+-- and a step from one column and row to another, both on the plate, reaches it
+pub step-to :
+    (W H : ℕ) (s : Step) (c r d e : ℕ) → c < W → r < H → d < W → e < H → pos c +ℤ s .column ≡ pos d → pos r +ℤ s .row ≡ pos e →
+    stepFrom W H (r * W + c) s ≡ at (e * W + d)
+unfolding stepFrom
+step-to W H s c r d e hc hr hd he x y =
+    let on : r * W + c < W * H = omega (arith, digits-lt hr hc) in
+    rw (lt-ltb (r * W + c) (W * H) on, digits-mod r hc, digits-div r hc, x, y, lands W H d e hd he)
 
 pub landed-on : {W H : ℕ} {x y : ℤ} {q : ℕ} → Landed W H x y q → q < W * H
 landed-on l = omega (arith, digits-lt (l .row<) (l .col<), l .place)

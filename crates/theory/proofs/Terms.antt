@@ -9,10 +9,11 @@ use Rattle.basics.proofs.Numbers.{le-or-lt, known-below}
 use Rattle.plate.specs.Paths.{next}
 use Rattle.theory.proofs.Walks.{Walk}
 use Rattle.theory.proofs.Steps.{next-on}
-use Rattle.theory.proofs.Reversal.{back, turn-back}
-use Rattle.theory.proofs.LevelSets.{best-keep, best-least, reach-same}
+use Rattle.theory.proofs.Reversal.{back, turn-back, back-on}
+use Rattle.theory.proofs.Maxima.{best-keep, best-least, upto-keep, upto-least}
+use Rattle.theory.proofs.LevelSets.{reach-same}
 use Rattle.theory.proofs.Splitting.{unsplit}
-use Rattle.theory.proofs.Decomposition.{joinedAt, across, value, upto-keep, upto-least, across-find}
+use Rattle.theory.proofs.Decomposition.{joinedAt, across, in-direction, value, across-find}
 
 -- ---- one direction
 
@@ -20,20 +21,17 @@ module _ (W H bit m k : ℕ) (g : ℕ → ℕ) (x : ℕ) where
   abbrev pub term : ℕ → ℕ → ℕ
   term = joinedAt (next W H bit) (back W H bit) g m k x
 
-  abbrev pub in-direction : ℕ
-  in-direction = across (next W H bit) (back W H bit) g m k x
-
-  pub across-term : (l i : ℕ) → l ≤ m → i ≤ k → term l i ≤ in-direction
+  pub across-term : (l i : ℕ) → l ≤ m → i ≤ k → term l i ≤ in-direction W H bit m k g x
   unfolding across
   across-term l i hl hi = upto-keep _ (term l i) m l hl (upto-keep (term l) (term l i) k i hi (omega arith))
 
-  pub across-least : (b : ℕ) → ((l i : ℕ) → l ≤ m → i ≤ k → term l i ≤ b) → in-direction ≤ b
+  pub across-least : (b : ℕ) → ((l i : ℕ) → l ≤ m → i ≤ k → term l i ≤ b) → in-direction W H bit m k g x ≤ b
   unfolding across
   across-least b h = upto-least _ b m (λ l hl. upto-least (term l) b k (λ i hi. h l i hl hi))
 
   -- where no walk of m steps crosses x
-  pub across-none : ((p : ℕ) (ps : List ℕ) → Walk (next W H bit) m p ps → List·Memᴰ x ps → ⊥) → in-direction ≡ 0
-  across-none none = known-below in-direction 0
+  pub across-none : ((p : ℕ) (ps : List ℕ) → Walk (next W H bit) m p ps → List·Memᴰ x ps → ⊥) → in-direction W H bit m k g x ≡ 0
+  across-none none = known-below (in-direction W H bit m k g x) 0
       (λ t positive h.
       let c = unsplit (next W H bit) (back W H bit) g t (turn-back W H bit) positive (across-find t m k x h) in
       absurd (none (c .start) (c .pixels) (c .walk) (c .crosses)))
@@ -69,7 +67,7 @@ module _ (W H : ℕ) (bits : List ℕ) (m k : ℕ) (x : ℕ) (x-on : x < W * H) 
         value-term W H bits m k h x bit l i c hl hi,
         same x x-on,
         reach-same (next W H bit) g h (W * H) (λ p q e. next-on W H bit p q e .1) same (m - l) (k - i) x x-on,
-        reach-same (back W H bit) g h (W * H) (λ p q e. next-on W H bit q p (turn-back W H bit p q e) .0) same l i x x-on,
+        reach-same (back W H bit) g h (W * H) (λ p q e. back-on W H bit p q e .1) same l i x x-on,
       ))
 
   pub value-same : (g h : ℕ → ℕ) → ((p : ℕ) → p < W * H → g p ≡ h p) → value W H bits m k g x ≡ value W H bits m k h x

@@ -2,29 +2,27 @@
 -- shown all of it. That nothing is better is that the filtered level is the highest, and that the filtered plate traces to the same level is that
 -- filtering twice is filtering once.
 use Prim.Native.Nat.{ℕ, _+_, _*_, _≤_, _<_}
-use mathlib.Core.Path.{_≡_, refl, sym, ap, subst, _∙_}
-use mathlib.Core.Bool.{Bool, true, false, not, cond}
-use mathlib.Core.List.{List, [], _∷_, _++_, map, List·Memᴰ, List·Memᴰ·head, List·Memᴰ·tail}
-use mathlib.Core.Logic.{⊎-elim}
+use mathlib.Core.Path.{_≡_, refl, sym, ap, _∙_}
+use mathlib.Core.Bool.{false, not}
+use mathlib.Core.List.{List, [], _∷_, map, List·Memᴰ, List·Memᴰ·head, List·Memᴰ·tail}
 use native.Mathlib.Omega.{arith}
-use lib.Dec.{T, not-T, eqb, leb, leb→le, le→leb}
+use lib.Dec.{T, not-T, eqb}
 use lib.ListN.{length}
 use lib.IntN.{ℤ}
 use lib.Signed.{mag, ltZ, _≤ℤ_, _<ℤ_, ltZ-yes, ltZ-no, clashℤ}
 use borrow.Author.Tests.{eq-eqb, le-ltb, eqb-true, leb-false, not-false}
 use Rattle.basics.proofs.Order.{lt-le, mag-between}
-use Rattle.basics.proofs.Lists.{flatMap-keep}
-use Rattle.plate.specs.Levels.{mirror}
 use Rattle.plate.specs.Directions.{chosen}
-use Rattle.plate.specs.Paths.{pathsIn, paths, through, crossed}
+use Rattle.plate.specs.Paths.{pathsIn, paths, through}
 use Rattle.plate.specs.Opening.{levelAt, below, admits, filtered}
-use Rattle.plate.specs.Refusals.{Verdict, Verdict.accepted, judged, traceChecks, traceVerdict}
+use Rattle.plate.specs.Refusals.{Verdict.accepted, traceChecks, traceVerdict}
 use Rattle.plate.specs.declared.setting.Setting.{Setting}
 use Rattle.plate.proofs.Keys.{mirror-ltZ}
 use Rattle.plate.proofs.Verdicts.{Clear, clear-accepted, accepted-clear}
 use Rattle.theory.specs.Trace.{short, better, Shows}
-use Rattle.theory.proofs.Walks.{through-mem}
-use Rattle.theory.proofs.Opening.{Levels, Counts, listed-on}
+use Rattle.theory.proofs.Listed.{through-mem, listed-on, paths-keep}
+use Rattle.theory.proofs.Admission.{admitted-few, few-admitted}
+use Rattle.theory.proofs.Opening.{Levels}
 use Rattle.theory.proofs.Mirror.{turned, turned-size, as-mode, levelAt-turned, filtered-length, filtered-levels, filtered-highest, filtered-idempotent}
 
 -- ---- counts and orders by the mode are those of the turned plate
@@ -81,13 +79,12 @@ module _ (s : Setting) (W H : ℕ) (f : List ℤ) (x room work : ℕ) (level : �
     nothing-better :
         (t : ℤ) → T (better s t level) → (T (better s t (levelAt f x)) → ⊥) → (way : ℕ) → List·Memᴰ way (chosen (s .directions)) → (other : List ℕ) →
         List·Memᴰ other (pathsIn W H (s .length) way) → T (through x other) → short s f t other ≤ s .gaps → ⊥
-    unfolding paths admits
     nothing-better t higher own way chosen-way other is-path crosses few =
-        let listed : List·Memᴰ other (paths W H (s .directions) (s .length)) = flatMap-keep (pathsIn W H (s .length)) other chosen-way is-path in
+        let listed : List·Memᴰ other (paths W H (s .directions) (s .length)) = paths-keep W H (s .directions) (s .length) chosen-way is-path in
         let on : (p : ℕ) → List·Memᴰ p other → p < length f = λ p i. omega (arith, listed-on W H (s .directions) (s .length) other listed p i, traced-exact) in
         let within : turned s t ≤ℤ turned s (levelAt f x) = ltZ-no (not-T (ltZ (turned s (levelAt f x)) (turned s t)) (λ u. own (rw (better-turned s t (levelAt f x)) u))) in
         let above : turned s level <ℤ turned s t = ltZ-yes (rw (← better-turned s t level) higher) in
-        let counts : T (admits s (map (turned s) f) (turned s t) other) = le→leb _ (s .gaps) (omega (arith, short-turned s f t other on)) in
+        let counts : T (admits s (map (turned s) f) (turned s t) other) = few-admitted s (map (turned s) f) (turned s t) other (omega (arith, short-turned s f t other on)) in
         let small : mag (turned s t) < 32768 = mag-between (lt-le above) within level-small (own-small (levelAt f x) (l .size x)) in
         clashℤ above
         (rw traced-level at
@@ -98,15 +95,14 @@ module _ (s : Setting) (W H : ℕ) (f : List ℤ) (x room work : ℕ) (level : �
     pub shows :
         (direction : ℕ) (path : List ℕ) → List·Memᴰ direction (chosen (s .directions)) → List·Memᴰ path (pathsIn W H (s .length) direction) → T (through x path) →
         T (admits s (map (turned s) f) (turned s level) path) → Shows s W H f x direction level path
-    unfolding paths admits
     shows direction path chosen-way is-path crosses counts =
-        let listed : List·Memᴰ path (paths W H (s .directions) (s .length)) = flatMap-keep (pathsIn W H (s .length)) path chosen-way is-path in
+        let listed : List·Memᴰ path (paths W H (s .directions) (s .length)) = paths-keep W H (s .directions) (s .length) chosen-way is-path in
         let on : (p : ℕ) → List·Memᴰ p path → p < length f = λ p i. omega (arith, listed-on W H (s .directions) (s .length) path listed p i, traced-exact) in
         record {
           is-path = is-path;
           is-chosen = chosen-way;
           crosses = crosses;
-          few = omega (arith, short-turned s f level path on, leb→le (below (map (turned s) f) (turned s level) path) (s .gaps) counts);
+          few = omega (arith, short-turned s f level path on, admitted-few s (map (turned s) f) (turned s level) path counts);
           best = nothing-better;
           is-filtered = sym traced-level;
           again = traced-again l;

@@ -10,7 +10,7 @@ use lib.Signed.{ltZ}
 use Rattle.plate.specs.Directions.{chosen}
 use Rattle.plate.specs.Paths.{pathsIn, through}
 use Rattle.plate.specs.Opening.{levelAt, filtered}
-use Rattle.plate.specs.Refusals.{Verdict, Verdict.accepted, traceVerdict}
+use Rattle.plate.specs.Refusals.{Verdict.accepted, traceVerdict}
 use Rattle.plate.specs.declared.setting.Setting.{Setting}
 
 -- is the level v higher than t in mode 0, lower in mode 1?

@@ -5,7 +5,7 @@ use mathlib.Core.List.{List, [], _∷_}
 use lib.Dec.{eqb}
 use lib.IntN.{ℤ, pos, negsuc}
 use Rattle.plate.specs.Opening.{filtered}
-use Rattle.plate.specs.Refusals.{Verdict, Verdict.accepted, Verdict.refused, traceVerdict}
+use Rattle.plate.specs.Refusals.{Verdict, traceVerdict}
 use Rattle.plate.specs.declared.setting.Setting.{Setting}
 
 -- a plate of W columns, filtered by a setting

@@ -6,7 +6,7 @@ use native.Mathlib.Omega.{arith}
 use mathlib.Core.Path.{_≡_, refl, sym, _∙_}
 use mathlib.Core.Bool.{false}
 use Rattle.plate.specs.Refusals.{badSize, judged, correctionVerdict}
-use Rattle.plate.proofs.Sizes.{GoodSize, good-size}
+use Rattle.plate.proofs.Sizes.{good-size}
 use Rattle.plate.proofs.correction.correct.Statement.{statement}
 use Rattle.plate.proofs.correction.correct.Tie as tie
 

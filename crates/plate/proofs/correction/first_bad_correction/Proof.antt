@@ -1,7 +1,7 @@
 -- `first_bad_correction` is the search for `badCorrection`: the invariant says how many words it has passed.
 use borrow.Author.Needs.{needs}
 use native.Mathlib.Omega.{arith}
-use mathlib.Core.Path.{_≡_, sym, _∙_}
+use mathlib.Core.Path.{sym, _∙_}
 use Prim.Native.Nat.{_≤_, _-_}
 use lib.ListN.{length}
 use Rattle.basics.proofs.Lists.{Passed, passed-none, passed-miss, passed-hit, passed-end}

@@ -1,5 +1,4 @@
 -- `key_of` adds in 32 bits, where nothing wraps, and the sum is a key: at most 65535.
-use Prim.Native.Nat.{ℕ}
 use mathlib.Core.Path.{_≡_}
 use native.Mathlib.Omega.{arith}
 use lib.IntN.{ℤ, pos, _+ℤ_}

@@ -1,7 +1,7 @@
 -- `signed_correction` is the definition's case split; word − 65536 is formed in 32 bits, where it fits.
 use native.Mathlib.Omega.{arith}
 use borrow.Author.Tests.{lt-ltb, le-ltb}
-use mir.Syntax.{w16, w32}
+use mir.Syntax.{w32}
 use mir.ValLaws.{toZ-ofZ, toZ-pos}
 use Rattle.basics.proofs.Integers.{mag-sub}
 use Rattle.plate.specs.Levels.{signed}

@@ -1,10 +1,9 @@
 -- `shifted` adds in 32 bits, where nothing wraps, and then tells the three cases of `within` apart.
 use Prim.Native.Nat.{ℕ, _<_}
 use mathlib.Core.Path.{_≡_, sym}
-use mathlib.Core.Bool.{true, false}
 use native.Mathlib.Omega.{arith}
-use lib.IntN.{ℤ, pos, _+ℤ_, natAbs}
-use lib.Signed.{mag, ltZ, natAbs-le}
+use lib.IntN.{ℤ, pos, _+ℤ_}
+use lib.Signed.{mag, natAbs-le}
 use mir.Syntax.{w8, w32}
 use mir.Val.{SFits, toZ, ofZ}
 use mir.ValLaws.{toZ-ofZ, toZ-pos}

@@ -11,7 +11,7 @@ use lib.Signed.{mag}
 use mir.Syntax.{w8}
 use mir.Val.{toZ, ofZ}
 use mir.ValLaws.{toZ-ofZ}
-use Rattle.plate.specs.Directions.{Step, indexOf, stepAt}
+use Rattle.plate.specs.Directions.{indexOf, stepAt}
 use Rattle.plate.specs.Refusals.{badSize}
 use Rattle.plate.specs.Within.{within}
 use Rattle.plate.specs.declared.walker.Walker.{Walker}
