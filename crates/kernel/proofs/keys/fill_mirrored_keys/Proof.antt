@@ -1,0 +1,79 @@
+use Rattle.kernel.proofs.keys.fill_mirrored_keys.Statement.{statement}
+use Rattle.kernel.proofs.keys.fill_mirrored_keys.Tie as tie
+use Rattle.kernel.proofs.keys.fill_mirrored_keys.Reads as reads
+use Rattle.kernel.proofs.keys.fill_mirrored_keys.Lts as lts
+use Rattle.kernel.proofs.keys.mirrored_key_of.Reads as mirrored-key-of-reads
+
+abbrev Inv-loop : tie.InvT-loop
+Inv-loop row₀ plate start from to c₀ row c = ?
+
+abbrev μ-loop : tie.MeasureT-loop
+μ-loop row₀ plate start from to c₀ row c = ?
+
+-- src/keys.rt:40:5
+loop-holds : tie.Need-loop-holds Inv-loop μ-loop
+loop-holds c = ?
+
+-- src/keys.rt:41:40
+add-mirrored-key-of : tie.Need-add-mirrored-key-of Inv-loop μ-loop
+add-mirrored-key-of c = ?
+
+-- src/keys.rt:41:34
+mul-mirrored-key-of : tie.Need-mul-mirrored-key-of Inv-loop μ-loop
+mul-mirrored-key-of c = ?
+
+-- src/keys.rt:41:34
+shared-slice-copy-out-mirrored-key-of :
+    tie.Need-shared-slice-copy-out-mirrored-key-of Inv-loop μ-loop
+shared-slice-copy-out-mirrored-key-of c = ?
+
+-- src/keys.rt:41:18
+mirrored-key-of-requires : tie.Need-mirrored-key-of-requires Inv-loop μ-loop
+mirrored-key-of-requires c κs = ?
+
+-- src/keys.rt:41:9
+mul-row : tie.Need-mul-row Inv-loop μ-loop
+mul-row c = ?
+
+-- src/keys.rt:41:9
+slice-write-row : tie.Need-slice-write-row Inv-loop μ-loop
+slice-write-row c = ?
+
+-- src/keys.rt:42:9
+add-c : tie.Need-add-c Inv-loop μ-loop
+add-c c = ?
+
+-- src/keys.rt:40:5
+loop-less : tie.Need-loop-less Inv-loop μ-loop
+loop-less c = ?
+
+-- src/keys.rt:40:5
+loop-again : tie.Need-loop-again Inv-loop μ-loop
+loop-again c = ?
+
+-- src/keys.rt:35:1
+same-length : tie.Need-same-length Inv-loop μ-loop
+same-length c = ?
+
+-- src/keys.rt:35:1
+returns : tie.Need-returns Inv-loop μ-loop
+returns c = ?
+
+pub fill-mirrored-keys-spec : {M : Type 1} → statement M
+fill-mirrored-keys-spec =
+    tie.close
+    (tie.spec
+    Inv-loop
+    μ-loop
+    loop-holds
+    add-mirrored-key-of
+    mul-mirrored-key-of
+    shared-slice-copy-out-mirrored-key-of
+    mirrored-key-of-requires
+    mul-row
+    slice-write-row
+    add-c
+    loop-less
+    loop-again
+    same-length
+    returns)

@@ -1,0 +1,33 @@
+use borrow.Author.Needs.{needs}
+use Rattle.kernel.proofs.rows.offset_of.Statement.{statement}
+use Rattle.kernel.proofs.rows.offset_of.Tie as tie
+use Rattle.kernel.proofs.rows.offset_of.Reads as reads
+use Rattle.kernel.proofs.rows.offset_of.Lts as lts
+
+-- src/rows.rt:126:16
+add-result : tie.Need-add-result
+add-result c = search needs
+
+-- src/rows.rt:126:9
+returns : tie.Need-returns
+returns c = ?
+
+-- src/rows.rt:129:16
+add-result-2 : tie.Need-add-result-2
+add-result-2 c = search needs
+
+-- src/rows.rt:129:9
+returns-2 : tie.Need-returns-2
+returns-2 c = ?
+
+-- src/rows.rt:131:5
+add-result-3 : tie.Need-add-result-3
+add-result-3 c = search needs
+
+-- src/rows.rt:121:1
+returns-3 : tie.Need-returns-3
+returns-3 c = ?
+
+pub offset-of-spec : {M : Type 1} → statement M
+offset-of-spec =
+    tie.close (tie.spec add-result returns add-result-2 returns-2 add-result-3 returns-3)
