@@ -13,6 +13,15 @@ use Rattle.kernel.specs.declared.rows.Slots.{Slots}
 
 -- ---- steps
 
+-- each step goes at most one column and one row, plus one
+pub record Near (r : Reach) : Type 0 where
+  pub x0≤ : r .x0 ≤ 2
+  pub y0≤ : r .y0 ≤ 2
+  pub x1≤ : r .x1 ≤ 2
+  pub y1≤ : r .y1 ≤ 2
+  pub x2≤ : r .x2 ≤ 2
+  pub y2≤ : r .y2 ≤ 2
+
 -- where the three steps of a direction lead
 pub record Reaches (r : Reach) (index : ℕ) (back : Bool) : Type 0 where
   pub is-x0 : r .x0 ≡ across index 0 back
@@ -21,9 +30,7 @@ pub record Reaches (r : Reach) (index : ℕ) (back : Bool) : Type 0 where
   pub is-y1 : r .y1 ≡ down index 1 back
   pub is-x2 : r .x2 ≡ across index 2 back
   pub is-y2 : r .y2 ≡ down index 2 back
-  pub x0≤ : r .x0 ≤ 2
-  pub x1≤ : r .x1 ≤ 2
-  pub x2≤ : r .x2 ≤ 2
+  pub near : Near r
 
 -- the slot of the row that lies y − 1 rows on
 unfoldable pub slotOf : Slots → ℕ → ℕ

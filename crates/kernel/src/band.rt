@@ -10,7 +10,7 @@ pub(crate) struct Run {
 
 // What a row adds to the rank of its pixels, beside their column.
 fn shift_of(index: usize, h: usize, r: usize) -> usize
-    requires { ⌜ r < h ⌝ }
+    requires { ⌜ (index < 4) × (r < h) ⌝ }
     ensures { λ s. ⌜ s ≡ shift index h r ⌝ }
 {
     if index == 1 {

@@ -4,7 +4,7 @@ ghost use Prim.Native.Nat.{ℕ, _+_, _-_, _*_, _≤_, _<_};
 ghost use lib.ListN.{length, getD};
 ghost use Rattle.kernel.specs.Runs.{Striped, blockSize, blendAt};
 ghost use Rattle.kernel.specs.Sets.{layer};
-ghost use Rattle.kernel.specs.Rows.{Sized, Turned, Reaches, RowRenewed, slotOf};
+ghost use Rattle.kernel.specs.Rows.{Sized, Turned, Near, RowRenewed, slotOf};
 use crate::band::run_in;
 use crate::keys::fill_row;
 use crate::runs::BLOCK;
@@ -154,7 +154,7 @@ pub(crate) fn renew_row(
     requires { ⌜ (w ≤ length (now key)) × (length (now plate) ≡ n) × (planes * blockSize + blockSize ≤ length (now held)) ⌝ }
     requires { ⌜ (index < 4) × (r < h) × (base ≡ r * w) × (lo ≤ hi) ⌝ }
     requires { ⌜ Turned (w + 2) (slots .above) (slots .here) (slots .below) ⌝ }
-    requires { ⌜ (reach .x0 ≤ 2) × (reach .x1 ≤ 2) × (reach .x2 ≤ 2) ⌝ }
+    requires { ⌜ Near reach ⌝ }
     ensures { λ _. ⌜ RowRenewed (now (set .entry)) (now (set .exit)) (now (held .entry)) (now (plate .entry)) mode w h n planes index reach slots r base lo hi ⌝ }
 {
     let run = run_in(index, w, h, r, lo, hi);

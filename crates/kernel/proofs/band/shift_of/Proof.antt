@@ -1,28 +1,23 @@
+-- `shift_of` meets its contract, direction by direction.
 use borrow.Author.Needs.{needs}
+use Rattle.kernel.proofs.BandLaws.{shift-east, shift-south-east, shift-north}
 use Rattle.kernel.proofs.band.shift_of.Statement.{statement}
 use Rattle.kernel.proofs.band.shift_of.Tie as tie
-use Rattle.kernel.proofs.band.shift_of.Reads as reads
-use Rattle.kernel.proofs.band.shift_of.Lts as lts
 
--- src/band.rt:17:9
 returns : tie.Need-returns
-returns c = ?
+returns c = shift-east _ _ _ (c .if1 .taken)
 
--- src/band.rt:20:9
 returns-2 : tie.Need-returns-2
-returns-2 c = ?
+returns-2 c = shift-south-east _ _ _ (c .if2 .taken)
 
--- src/band.rt:22:5
 sub-result : tie.Need-sub-result
 sub-result c = search needs
 
--- src/band.rt:22:5
 sub-result-2 : tie.Need-sub-result-2
 sub-result-2 c = search needs
 
--- src/band.rt:12:1
 returns-3 : tie.Need-returns-3
-returns-3 c = ?
+returns-3 c = shift-north _ _ _ (c .before .before .pre .0) (c .before .if1 .left) (c .if2 .left)
 
 pub shift-of-spec : {M : Type 1} → statement M
 shift-of-spec = tie.close (tie.spec returns returns-2 sub-result sub-result-2 returns-3)

@@ -1,22 +1,27 @@
+-- `rows_on` meets its contract: the table's entry, read signed, plus one.
 use borrow.Author.Needs.{needs}
+use mathlib.Core.Path.{_∙_, ap}
+use mir.Syntax.{w8}
+use mir.Facts.{toZ-ofZ}
+use lib.IntN.{ℤ}
+use Rattle.kernel.specs.Sets.{biased, down}
 use Rattle.kernel.proofs.steps.rows_on.Statement.{statement}
 use Rattle.kernel.proofs.steps.rows_on.Tie as tie
-use Rattle.kernel.proofs.steps.rows_on.Reads as reads
-use Rattle.kernel.proofs.steps.rows_on.Lts as lts
-use Rattle.kernel.proofs.steps.bias.Reads as bias-reads
-use Rattle.plate.proofs.row_change.Reads as row-change-reads
 
--- src/steps.rt:44:10
 row-change-requires : tie.Need-row-change-requires
 row-change-requires c κs = search needs
 
--- src/steps.rt:44:5
 bias-requires : tie.Need-bias-requires
 bias-requires c κs = search needs
 
--- src/steps.rt:41:1
 returns : tie.Need-returns
-returns c = ?
+unfolding down
+returns c = (
+    c .bias .ensures .0
+    ∙ ap (λ (z : ℤ). biased (c .before .before .args .backwards) z)
+    (toZ-ofZ {w = w8} {z = c .before .row-change .result} (search needs) ∙ c .before .row-change .ensures),
+    c .bias .ensures .1,
+)
 
 pub rows-on-spec : {M : Type 1} → statement M
 rows-on-spec = tie.close (tie.spec row-change-requires bias-requires returns)
