@@ -16,6 +16,7 @@ use Rattle.kernel.specs.Rows.{Near, Reaches, slotOf, Covers, Holds, ahea
 use Rattle.kernel.specs.declared.steps.Reach.{Reach}
 use Rattle.kernel.specs.declared.rows.Slots.{Slots}
 use Rattle.kernel.proofs.RunLaws.{rows-fit}
+use Rattle.kernel.proofs.HeldLaws.{Apart}
 
 pub slot-above : (slots : Slots) (y x : ℕ) → y ≡ 0 → slots .above + x ≡ slotOf slots y + x
 unfolding slotOf
@@ -30,6 +31,13 @@ unfolding slotOf
 slot-below slots zero x n m = absurd (n refl)
 slot-below slots (suc zero) x n m = absurd (m refl)
 slot-below slots (suc (suc y)) x n m = refl
+
+-- a slot lies in the block
+pub slot-fits : (slots : Slots) (s y : ℕ) → Apart s (slots .above) (slots .here) (slots .below) → slotOf slots y + s ≤ blockSize
+unfolding slotOf
+slot-fits slots s zero p = p .above-fits
+slot-fits slots s (suc zero) p = p .here-fits
+slot-fits slots s (suc (suc y)) p = p .below-fits
 
 module _ (old held : List ℕ) (w h planes : ℕ) (slots : Slots) (r : ℕ) (a : Holds old held w h planes (slots .above) r) (b : Holds old held w h planes (slots .here) (r + 1)) (l : Holds old held w h planes (slots .below) (r + 2)) where
   -- what one offset reads

@@ -1,4 +1,5 @@
 use borrow.Author.Needs.{needs}
+use Rattle.kernel.proofs.RowLaws.{slot-above, slot-here, slot-below}
 use Rattle.kernel.proofs.rows.offset_of.Statement.{statement}
 use Rattle.kernel.proofs.rows.offset_of.Tie as tie
 use Rattle.kernel.proofs.rows.offset_of.Reads as reads
@@ -10,7 +11,7 @@ add-result c = search needs
 
 -- src/rows.rt:126:9
 returns : tie.Need-returns
-returns c = ?
+returns c = slot-above _ _ _ (c .before .if1 .taken)
 
 -- src/rows.rt:129:16
 add-result-2 : tie.Need-add-result-2
@@ -18,7 +19,7 @@ add-result-2 c = search needs
 
 -- src/rows.rt:129:9
 returns-2 : tie.Need-returns-2
-returns-2 c = ?
+returns-2 c = slot-here _ _ _ (c .before .if2 .taken)
 
 -- src/rows.rt:131:5
 add-result-3 : tie.Need-add-result-3
@@ -26,7 +27,7 @@ add-result-3 c = search needs
 
 -- src/rows.rt:121:1
 returns-3 : tie.Need-returns-3
-returns-3 c = ?
+returns-3 c = slot-below _ _ _ (c .before .before .if1 .left) (c .before .if2 .left)
 
 pub offset-of-spec : {M : Type 1} → statement M
 offset-of-spec =
