@@ -7,3 +7,5 @@ pub mod PlaneLaws
 pub mod HeldLaws
 pub mod RowLaws
 pub mod Progress
+pub mod Landing
+pub mod Bridge
