@@ -97,10 +97,11 @@ module _ (a : List ℕ) (w h index : ℕ) (backwards : Bool) (p : ℕ) (known : 
       sym
       (ap (best g) (around-steps backwards w h index p known)
       ∙ best-three g w h p (toward backwards (stepAt index 0)) (toward backwards (stepAt index 1)) (toward backwards (stepAt index 2))
-      ∙ rw
-      (step-cell a (j * (h * w)) w h backwards (stepAt index 0) p (s₀ .column) (s₀ .row) on,
-      step-cell a (j * (h * w)) w h backwards (stepAt index 1) p (s₁ .column) (s₁ .row) on,
-      step-cell a (j * (h * w)) w h backwards (stepAt index 2) p (s₂ .column) (s₂ .row) on))
+      ∙ rw (
+        step-cell a (j * (h * w)) w h backwards (stepAt index 0) p (s₀ .column) (s₀ .row) on,
+        step-cell a (j * (h * w)) w h backwards (stepAt index 1) p (s₁ .column) (s₁ .row) on,
+        step-cell a (j * (h * w)) w h backwards (stepAt index 2) p (s₂ .column) (s₂ .row) on,
+      ))
 
   lower-best : (j : ℕ) → ahead a w h index backwards j (p / w) (p % w) ≡ fewer (λ i. best (λ q. getD a (i * (h * w) + q) 0) (around backwards w h (2 ^ index) p)) j
   unfolding fewer

@@ -48,11 +48,11 @@ unfolding layer
 rest-layer old set w h row zero X g o p q = absurd (omega arith)
 rest-layer old set w h row (suc j) X g o p q =
     elim (le-or-lt h row) [
-      inl l ↦ layer-below set w h (suc j) (row + 1) X (omega arith) ∙ sym (layer-below old w h (suc j) (row + 1) X (omega arith))
+      | inl l ↦ layer-below set w h (suc j) (row + 1) X (omega arith) ∙ sym (layer-below old w h (suc j) (row + 1) X (omega arith))
       | inr l ↦ let e : (row + 1 - 1) * w ≡ row * w = ap (λ (x : ℕ). x * w) (let e : row + 1 - 1 ≡ row = omega arith in e) in
-        cell-on set (j * (h * w)) w h (row + 1) X (omega arith) (omega arith) p q
-        ∙ g .same j ((row + 1 - 1) * w + (X - 1)) (omega arith) (omega (arith, rows-fit row 1 h w (omega arith)))
-        ∙ sym (cell-on old (j * (h * w)) w h (row + 1) X (omega arith) (omega arith) p q)
+          cell-on set (j * (h * w)) w h (row + 1) X (omega arith) (omega arith) p q
+          ∙ g .same j ((row + 1 - 1) * w + (X - 1)) (omega arith) (omega (arith, rows-fit row 1 h w (omega arith)))
+          ∙ sym (cell-on old (j * (h * w)) w h (row + 1) X (omega arith) (omega arith) p q)
     ]
 
 -- ---- a row comes in
@@ -63,10 +63,10 @@ module _ (old set held new : List ℕ) (w h planes row slot : ℕ) (s : Striped 
   others-held at Y f o g =
       record {
         is = λ b X p q.
-          elim o [
-            inl l ↦ s .under b (at + X) (omega arith) ∙ g .is b X p q
-            | inr l ↦ s .over b (at + X) (omega arith) (omega arith) ∙ g .is b X p q
-          ]
+            elim o [
+              | inl l ↦ s .under b (at + X) (omega arith) ∙ g .is b X p q
+              | inr l ↦ s .over b (at + X) (omega arith) (omega arith) ∙ g .is b X p q
+            ];
       }
 
   -- the slot, which held some row before, now holds this one
@@ -76,18 +76,18 @@ module _ (old set held new : List ℕ) (w h planes row slot : ℕ) (s : Striped 
     came zero X p m = s .before 0 (slot + X) (omega arith) (omega arith) ∙ held-before .is 0 X p m
     came (suc j) X p m =
         elim (le-or-lt 1 X) [
-          inr l ↦ s .under (suc j) (slot + X) (omega arith)
-            ∙ held-before .is (suc j) X p m
-            ∙ layer-left old w h (suc j) q X l
-            ∙ sym (layer-left old w h (suc j) (row + 1) X l)
-          | inl l ↦ elim (le-or-lt X w) [
-            inr k ↦ s .over (suc j) (slot + X) (omega arith) (omega arith)
+          | inr l ↦ s .under (suc j) (slot + X) (omega arith)
               ∙ held-before .is (suc j) X p m
-              ∙ layer-right old w h (suc j) q X k
-              ∙ sym (layer-right old w h (suc j) (row + 1) X k)
+              ∙ layer-left old w h (suc j) q X l
+              ∙ sym (layer-left old w h (suc j) (row + 1) X l)
+          | inl l ↦ elim (le-or-lt X w) [
+            | inr k ↦ s .over (suc j) (slot + X) (omega arith) (omega arith)
+                ∙ held-before .is (suc j) X p m
+                ∙ layer-right old w h (suc j) q X k
+                ∙ sym (layer-right old w h (suc j) (row + 1) X k)
             | inl k ↦ s .inside (suc j) (slot + X) (omega arith) (omega arith) (omega arith) (omega arith)
-              ∙ ap (λ (x : ℕ). layer set w h (suc j) (row + 1) x) (let e : slot + X - slot ≡ X = omega arith in e)
-              ∙ rest-layer old set w h row (suc j) X rest (omega arith) l k
+                ∙ ap (λ (x : ℕ). layer set w h (suc j) (row + 1) x) (let e : slot + X - slot ≡ X = omega arith in e)
+                ∙ rest-layer old set w h row (suc j) X rest (omega arith) l k
           ]
         ]
 

@@ -85,9 +85,9 @@ module _ (a : List ℕ) (start W H : ℕ) where
   landing-cell (suc r) zero = sym (cell-left a start W H (suc r) 0 (omega arith))
   landing-cell (suc r) (suc c) =
       elim (le-or-lt W c) [
-        inl l ↦ rw (le-ltb c W l) (sym (cell-right a start W H (suc r) (suc c) (omega arith)))
+        | inl l ↦ rw (le-ltb c W l) (sym (cell-right a start W H (suc r) (suc c) (omega arith)))
         | inr l ↦ elim (le-or-lt H r) [
-          inl m ↦ rw (lt-ltb c W l, le-ltb r H m) (sym (cell-below a start W H (suc r) (suc c) (omega arith)))
+          | inl m ↦ rw (lt-ltb c W l, le-ltb r H m) (sym (cell-below a start W H (suc r) (suc c) (omega arith)))
           | inr m ↦ on-plate c r l m
         ]
       ]

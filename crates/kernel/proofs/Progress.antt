@@ -49,8 +49,8 @@ window-start n old new w h planes slots l e s =
       above = others-held old old (replicate n 0) new w h planes 0 (w + 2) s 0 0 (omega arith) (inl (omega arith)) (zeros-hold old n w h planes 0);
       here = row-comes old old (replicate n 0) new w h planes 0 (w + 2) s 0 (omega arith) (rest-all old (h * w) (0 * w)) (zeros-hold old n w h planes (w + 2));
       below =
-        others-held old old (replicate n 0) new w h planes 0 (w + 2) s (w + 2 + (w + 2)) 0 (omega arith) (inr (omega arith))
-        (zeros-hold old n w h planes (w + 2 + (w + 2)));
+          others-held old old (replicate n 0) new w h planes 0 (w + 2) s (w + 2 + (w + 2)) 0 (omega arith) (inr (omega arith))
+          (zeros-hold old n w h planes (w + 2 + (w + 2)));
     })
 
 -- ---- one row
@@ -100,17 +100,17 @@ module _ (old set new held held′ : List ℕ) (plate : List ℤ) (mode w h plan
   rows-more on done =
       record {
         inside = λ j q c p l t a b.
-          elim (le-or-lt r q) [
-            inr k ↦ v .under j (q * w + c) (omega (arith, rows-fit q 1 r w (omega arith))) ∙ done .inside j q c p k t a b
-            | inl k ↦ let e : r ≡ q = omega arith in
-              subst (λ (x : ℕ). lo ≤ rank index h x c → rank index h x c ≤ hi → getD new (j * (h * w) + (x * w + c)) 0 ≡ renewed old plate mode w h index back j x c) e (row-done j c p t) a b
-          ];
+            elim (le-or-lt r q) [
+              | inr k ↦ v .under j (q * w + c) (omega (arith, rows-fit q 1 r w (omega arith))) ∙ done .inside j q c p k t a b
+              | inl k ↦ let e : r ≡ q = omega arith in
+                  subst (λ (x : ℕ). lo ≤ rank index h x c → rank index h x c ≤ hi → getD new (j * (h * w) + (x * w + c)) 0 ≡ renewed old plate mode w h index back j x c) e (row-done j c p t) a b
+            ];
         outside = λ j q c p l t out.
-          elim (le-or-lt r q) [
-            inr k ↦ v .under j (q * w + c) (omega (arith, rows-fit q 1 r w (omega arith))) ∙ done .outside j q c p k t out
-            | inl k ↦ let e : r ≡ q = omega arith in
-              subst (λ (x : ℕ). (lo ≤ rank index h x c → rank index h x c ≤ hi → ⊥) → getD new (j * (h * w) + (x * w + c)) 0 ≡ getD old (j * (h * w) + (x * w + c)) 0) e (row-kept j c t on) out
-          ];
+            elim (le-or-lt r q) [
+              | inr k ↦ v .under j (q * w + c) (omega (arith, rows-fit q 1 r w (omega arith))) ∙ done .outside j q c p k t out
+              | inl k ↦ let e : r ≡ q = omega arith in
+                  subst (λ (x : ℕ). (lo ≤ rank index h x c → rank index h x c ≤ hi → ⊥) → getD new (j * (h * w) + (x * w + c)) 0 ≡ getD old (j * (h * w) + (x * w + c)) 0) e (row-kept j c t on) out
+            ];
       }
 
 -- ---- the end

@@ -59,17 +59,19 @@ module _ (old held : List ℕ) (w h planes : ℕ) (slots : Slots) (r : ℕ) (a :
     greatest-reads : (j c at : ℕ) → j ≤ planes → c < w → at ≡ j * blockSize → greatestAt held at o0 o1 o2 c ≡ aheadBy old w h reach j r c
     unfolding aheadBy
     greatest-reads j c at p t ea =
-        rw
-        (step-reads j (reach .y0) (reach .x0) c at o0 p (near .y0≤) (near .x0≤) t ea e0,
-        step-reads j (reach .y1) (reach .x1) c at o1 p (near .y1≤) (near .x1≤) t ea e1,
-        step-reads j (reach .y2) (reach .x2) c at o2 p (near .y2≤) (near .x2≤) t ea e2)
+        rw (
+          step-reads j (reach .y0) (reach .x0) c at o0 p (near .y0≤) (near .x0≤) t ea e0,
+          step-reads j (reach .y1) (reach .x1) c at o1 p (near .y1≤) (near .x1≤) t ea e1,
+          step-reads j (reach .y2) (reach .x2) c at o2 p (near .y2≤) (near .x2≤) t ea e2,
+        )
 
     blend-reads : (key : List ℕ) (j c : ℕ) → j < planes → c < w → blendAt key held (j * blockSize) o0 o1 o2 c ≡ max (min (getD key c 0) (aheadBy old w h reach (suc j) r c)) (aheadBy old w h reach j r c)
     unfolding blendAt
     blend-reads key j c p t =
-        rw
-        (greatest-reads (suc j) c (j * blockSize + blockSize) (omega arith) t (omega arith),
-        greatest-reads j c (j * blockSize) (omega arith) t refl)
+        rw (
+          greatest-reads (suc j) c (j * blockSize + blockSize) (omega arith) t (omega arith),
+          greatest-reads j c (j * blockSize) (omega arith) t refl,
+        )
 
 module _ (set new key held : List ℕ) (plate : List ℤ) (before : List ℕ) (mode w h n planes index : ℕ) (reach : Reach) (slots : Slots) (r base lo hi from to o0 o1 o2 : ℕ) (is-n : n ≡ h * w) (on : r < h) (is-base : base ≡ r * w) (near : Near reach) (v : Covers index w h r lo hi from to) (k : Between (λ (c : ℕ). keyBy mode (levelAt plate (base + c))) before key from to) (e0 : o0 ≡ slotOf slots (reach .y0) + reach .x0) (e1 : o1 ≡ slotOf slots (reach .y1) + reach .x1) (e2 : o2 ≡ slotOf slots (reach .y2) + reach .x2) (s : Striped (λ (j i : ℕ). blendAt key held (j * blockSize) o0 o1 o2 (i - base)) set new n 0 planes (base + from) (base + to)) where
   row-in : (old : List ℕ) → Holds old held w h planes (slots .above) r → Holds old held w h planes (slots .here) (r + 1) → Holds old held w h planes (slots .below) (r + 2) → (j c : ℕ) → j < planes → c < w → lo ≤ rank index h r c → rank index h r c ≤ hi → getD new (j * n + (base + c)) 0 ≡ max (min (keyBy mode (levelAt plate (base + c))) (aheadBy old w h reach (suc j) r c)) (aheadBy old w h reach j r c)
@@ -84,9 +86,9 @@ module _ (set new key held : List ℕ) (plate : List ℤ) (before : List ℕ) (m
   row-out : (j c : ℕ) → c < w → (lo ≤ rank index h r c → rank index h r c ≤ hi → ⊥) → getD new (j * n + (base + c)) 0 ≡ getD set (j * n + (base + c)) 0
   row-out j c t out =
       elim (le-or-lt from c) [
-        inr l ↦ s .under j (base + c) (omega arith)
+        | inr l ↦ s .under j (base + c) (omega arith)
         | inl l ↦ elim (le-or-lt to c) [
-          inl m ↦ s .over j (base + c) (omega arith) (omega (arith, rows-fit r 1 h w (omega arith)))
+          | inl m ↦ s .over j (base + c) (omega arith) (omega (arith, rows-fit r 1 h w (omega arith)))
           | inr m ↦ absurd (out (v .low c l m) (v .high c l m))
         ]
       ]

@@ -20,10 +20,10 @@ pub between-more : (f : ℕ → ℕ) (old new : List ℕ) (lo hi n v : ℕ) → 
 between-more f old new lo hi n v b o l e s =
     record {
       inside = λ k a h.
-        ⊎-elim
-        (λ q. subst (λ (j : ℕ). getD (set new hi v) j 0 ≡ f j) (sym q) (getD-set-same new hi v 0 (omega (arith, b .len)) ∙ e))
-        (λ q. getD-set-other new hi k v 0 (λ z. omega arith) ∙ b .inside k a q)
-        (eq-or-lt-of-le (let g : k ≤ hi = omega arith in g));
+          ⊎-elim
+          (λ q. subst (λ (j : ℕ). getD (set new hi v) j 0 ≡ f j) (sym q) (getD-set-same new hi v 0 (omega (arith, b .len)) ∙ e))
+          (λ q. getD-set-other new hi k v 0 (λ z. omega arith) ∙ b .inside k a q)
+          (eq-or-lt-of-le (let g : k ≤ hi = omega arith in g));
       under = λ k h. getD-set-other new hi k v 0 (λ z. omega arith) ∙ b .under k h;
       over = λ k h. getD-set-other new hi k v 0 (λ z. omega arith) ∙ b .over k (omega arith);
       len = length-set new hi v ∙ b .len;
@@ -57,14 +57,14 @@ module _ (f : ℕ → ℕ → ℕ) (g : ℕ → ℕ) (old mid new : List ℕ) (n
   apart : (j i : ℕ) → i < n → (i < lo) ⊎ (hi ≤ i) → getD new (j * n + i) 0 ≡ getD mid (j * n + i) 0
   apart j i m o =
       elim (le-or-lt past j) [
-        inr l ↦ earlier j i l m
+        | inr l ↦ earlier j i l m
         | inl l ↦ elim (le-or-lt j past) [
-          inr k ↦ later j i k
+          | inr k ↦ later j i k
           | inl k ↦ let e : j ≡ past = omega arith in
-            elim o [
-              inl u ↦ b .under (j * n + i) (omega (arith, ap (λ (x : ℕ). x * n) e))
-              | inr u ↦ b .over (j * n + i) (omega (arith, ap (λ (x : ℕ). x * n) e))
-            ]
+              elim o [
+                | inl u ↦ b .under (j * n + i) (omega (arith, ap (λ (x : ℕ). x * n) e))
+                | inr u ↦ b .over (j * n + i) (omega (arith, ap (λ (x : ℕ). x * n) e))
+              ]
         ]
       ]
 
@@ -72,11 +72,11 @@ module _ (f : ℕ → ℕ → ℕ) (g : ℕ → ℕ) (old mid new : List ℕ) (n
   striped-more o rule =
       record {
         inside = λ j i a l p q.
-          elim (le-or-lt past j) [
-            inr k ↦ earlier j i k (omega arith) ∙ s .inside j i a k p q
-            | inl k ↦ subst (λ (m : ℕ). getD new (m * n + i) 0 ≡ f m i) (let e : past ≡ j = omega arith in e)
-              (b .inside (past * n + i) (omega arith) (omega arith) ∙ rule i p q)
-          ];
+            elim (le-or-lt past j) [
+              | inr k ↦ earlier j i k (omega arith) ∙ s .inside j i a k p q
+              | inl k ↦ subst (λ (m : ℕ). getD new (m * n + i) 0 ≡ f m i) (let e : past ≡ j = omega arith in e)
+                  (b .inside (past * n + i) (omega arith) (omega arith) ∙ rule i p q)
+            ];
         under = λ j i l. apart j i (omega arith) (inl l) ∙ s .under j i l;
         over = λ j i l m. apart j i m (inr l) ∙ s .over j i l m;
         before = λ j i l m. earlier j i (omega arith) m ∙ s .before j i l m;

@@ -6,7 +6,7 @@ use mathlib.Core.List.{List}
 use lib.ListN.{length, getD}
 use lib.IntN.{ℤ}
 use Rattle.plate.specs.Opening.{levelAt}
-use Rattle.kernel.specs.Runs.{blockSize}
+use Rattle.kernel.specs.Runs.{Striped, blockSize, blendAt}
 use Rattle.kernel.specs.Sets.{keyBy, across, down, layer, rank}
 use Rattle.kernel.specs.declared.steps.Reach.{Reach}
 use Rattle.kernel.specs.declared.rows.Slots.{Slots}
@@ -71,6 +71,22 @@ pub record Sized (w h n planes all : ℕ) : Type 0 where
   pub pixels : n ≡ h * w
   pub few : planes ≤ 9
   pub whole : all ≡ planes * n
+
+-- in the blocks from 1 below past, the row of w numbers in a slot, between its two zeros, is f b i; all else is old
+abbrev pub Slotted : (ℕ → ℕ → ℕ) → List ℕ → List ℕ → ℕ → ℕ → ℕ → Type 0
+Slotted f old new past slot w = Striped f old new blockSize 1 past (slot + 1) (slot + 1 + w)
+
+-- what comes to the place i of block b: the row of plane b − 1 that begins at `start`
+abbrev pub rowOf : List ℕ → ℕ → ℕ → ℕ → ℕ → ℕ → ℕ
+rowOf set n start slot b i = getD set ((b - 1) * n + (start + (i - (slot + 1)))) 0
+
+-- the same by the row's number, and for every row
+abbrev pub layerRow : List ℕ → ℕ → ℕ → ℕ → ℕ → ℕ → ℕ → ℕ
+layerRow set w h row slot b i = layer set w h b (row + 1) (i - slot)
+
+-- the new number at the place i of plane j, in the row that begins at `base`
+abbrev pub blendRow : List ℕ → List ℕ → ℕ → ℕ → ℕ → ℕ → ℕ → ℕ → ℕ
+blendRow key held o0 o1 o2 base j i = blendAt key held (j * blockSize) o0 o1 o2 (i - base)
 
 -- in every block, the slot that begins at `at` holds row Y − 1 of the block's layer, with a 0 before and after
 pub record Holds (old held : List ℕ) (w h planes at Y : ℕ) : Type 0 where

@@ -2,9 +2,8 @@ ghost use mathlib.Core.Path.{_≡_};
 ghost use mathlib.Core.List.{List};
 ghost use Prim.Native.Nat.{ℕ, _+_, _-_, _*_, _≤_, _<_};
 ghost use lib.ListN.{length, getD};
-ghost use Rattle.kernel.specs.Runs.{Striped, blockSize, blendAt};
-ghost use Rattle.kernel.specs.Sets.{layer};
-ghost use Rattle.kernel.specs.Rows.{Sized, Turned, Near, RowRenewed, slotOf};
+ghost use Rattle.kernel.specs.Runs.{Striped, blockSize};
+ghost use Rattle.kernel.specs.Rows.{Near, slotOf, Turned, Sized, Slotted, rowOf, layerRow, blendRow, RowRenewed};
 use crate::band::run_in;
 use crate::keys::fill_row;
 use crate::runs::BLOCK;
@@ -37,7 +36,7 @@ fn hold_row(
 )
     requires { ⌜ (planes ≤ 9) × (slot + 2 + w ≤ blockSize) × (start + w ≤ n) ⌝ }
     requires { ⌜ (planes * n ≤ length (now set)) × (planes * blockSize + blockSize ≤ length (now held)) ⌝ }
-    ensures { λ _. ⌜ Striped (λ (b i : ℕ). getD (now (set .entry)) ((b - 1) * n + (start + (i - (slot + 1)))) 0) (now (held .entry)) (now (held .exit)) blockSize 1 (planes + 1) (slot + 1) (slot + 1 + w) ⌝ }
+    ensures { λ _. ⌜ Slotted (rowOf (now (set .entry)) n start slot) (now (held .entry)) (now (held .exit)) (planes + 1) slot w ⌝ }
 {
     let mut j = 0;
     let mut at = BLOCK + (slot + 1);
@@ -53,7 +52,7 @@ fn hold_row(
 // Zeros come into a slot of each plane.
 fn hold_zeros(held: &mut [u16], planes: usize, slot: usize, w: usize)
     requires { ⌜ (planes ≤ 9) × (slot + 2 + w ≤ blockSize) × (planes * blockSize + blockSize ≤ length (now held)) ⌝ }
-    ensures { λ _. ⌜ Striped (λ (b i : ℕ). 0) (now (held .entry)) (now (held .exit)) blockSize 1 (planes + 1) (slot + 1) (slot + 1 + w) ⌝ }
+    ensures { λ _. ⌜ Slotted (λ (b i : ℕ). 0) (now (held .entry)) (now (held .exit)) (planes + 1) slot w ⌝ }
 {
     let mut j = 0;
     let mut at = BLOCK + (slot + 1);
@@ -78,7 +77,7 @@ pub(crate) fn hold(
 )
     requires { ⌜ Sized w h n planes (length (now set)) ⌝ }
     requires { ⌜ (start ≡ row * w) × (slot + 2 + w ≤ blockSize) × (planes * blockSize + blockSize ≤ length (now held)) ⌝ }
-    ensures { λ _. ⌜ Striped (λ (b i : ℕ). layer (now (set .entry)) w h b (row + 1) (i - slot)) (now (held .entry)) (now (held .exit)) blockSize 1 (planes + 1) (slot + 1) (slot + 1 + w) ⌝ }
+    ensures { λ _. ⌜ Slotted (layerRow (now (set .entry)) w h row slot) (now (held .entry)) (now (held .exit)) (planes + 1) slot w ⌝ }
 {
     if row < h {
         hold_row(held, set, n, planes, start, slot, w);
@@ -104,7 +103,7 @@ fn renew_planes(
     requires { ⌜ (planes ≤ 9) × (from ≤ to) × (base + to ≤ n) × (to ≤ length (now key)) ⌝ }
     requires { ⌜ (o0 + to ≤ blockSize) × (o1 + to ≤ blockSize) × (o2 + to ≤ blockSize) ⌝ }
     requires { ⌜ (planes * n ≤ length (now set)) × (planes * blockSize + blockSize ≤ length (now held)) ⌝ }
-    ensures { λ _. ⌜ Striped (λ (j i : ℕ). blendAt (now (key .entry)) (now (held .entry)) (j * blockSize) o0 o1 o2 (i - base)) (now (set .entry)) (now (set .exit)) n 0 planes (base + from) (base + to) ⌝ }
+    ensures { λ _. ⌜ Striped (blendRow (now (key .entry)) (now (held .entry)) o0 o1 o2 base) (now (set .entry)) (now (set .exit)) n 0 planes (base + from) (base + to) ⌝ }
 {
     let mut j = 0;
     let mut at = base;

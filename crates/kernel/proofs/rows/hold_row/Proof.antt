@@ -3,7 +3,8 @@ use mathlib.Core.Path.{_≡_}
 use native.Mathlib.Nat.{add-mul}
 use native.Mathlib.Omega.{arith}
 use lib.ListN.{getD}
-use Rattle.kernel.specs.Runs.{Striped, blockSize, blendAt}
+use Rattle.kernel.specs.Runs.{blockSize}
+use Rattle.kernel.specs.Rows.{Slotted, rowOf}
 use Rattle.kernel.proofs.RunLaws.{rows-fit, striped-none, striped-ends}
 use Rattle.kernel.proofs.PlaneLaws.{held-more}
 use Rattle.kernel.proofs.rows.hold_row.Statement.{statement}
@@ -17,7 +18,7 @@ Inv-loop held₀ set n planes start slot w j₀ at₀ from₀ held j at from =
     (j ≤ planes)
     × (at ≡ (j + 1) * blockSize + (slot + 1))
     × (from ≡ j * n + start)
-    × Striped (λ (b i : ℕ). getD set ((b - 1) * n + (start + (i - (slot + 1)))) 0) held₀ held blockSize 1 (j + 1) (slot + 1) (slot + 1 + w)
+    × Slotted (rowOf set n start slot) held₀ held (j + 1) slot w
 
 abbrev μ-loop : tie.MeasureT-loop
 μ-loop held₀ set n planes start slot w j₀ at₀ from₀ held j at from = planes - j
@@ -68,7 +69,7 @@ loop-again c =
       omega arith,
       omega arith,
       omega (arith, l .inv, add-mul (l .j) 1 (s .args .n)),
-      held-more (s .args .set .now) _ _ _ _ _ _ _ _ _ _ (s .pre .0 .1) (l .inv .1) (l .inv .2) (l .inv .3) (c .before .before .copy-run .ensures),
+      held-more _ _ _ _ _ _ _ (s .pre .0 .1) (l .inv .1) (s .args .set .now) _ _ _ (l .inv .2) (l .inv .3) (c .before .before .copy-run .ensures),
     )
 
 -- src/rows.rt:29:1

@@ -3,7 +3,8 @@ use mathlib.Core.Path.{_≡_}
 use native.Mathlib.Nat.{add-mul}
 use native.Mathlib.Omega.{arith}
 use lib.ListN.{getD}
-use Rattle.kernel.specs.Runs.{Striped, blockSize, blendAt}
+use Rattle.kernel.specs.Runs.{blockSize}
+use Rattle.kernel.specs.Rows.{Slotted, rowOf}
 use Rattle.kernel.proofs.RunLaws.{rows-fit, striped-none, striped-ends}
 use Rattle.kernel.proofs.PlaneLaws.{cleared-more}
 use Rattle.kernel.proofs.rows.hold_zeros.Statement.{statement}
@@ -16,7 +17,7 @@ abbrev Inv-loop : tie.InvT-loop
 Inv-loop held₀ planes slot w j₀ at₀ held j at =
     (j ≤ planes)
     × (at ≡ (j + 1) * blockSize + (slot + 1))
-    × Striped (λ (b i : ℕ). 0) held₀ held blockSize 1 (j + 1) (slot + 1) (slot + 1 + w)
+    × Slotted (λ (b i : ℕ). 0) held₀ held (j + 1) slot w
 
 abbrev μ-loop : tie.MeasureT-loop
 μ-loop held₀ planes slot w j₀ at₀ held j at = planes - j

@@ -3,7 +3,8 @@ use mathlib.Core.Path.{_≡_}
 use native.Mathlib.Nat.{add-mul}
 use native.Mathlib.Omega.{arith}
 use lib.ListN.{getD}
-use Rattle.kernel.specs.Runs.{Striped, blockSize, blendAt}
+use Rattle.kernel.specs.Runs.{Striped, blockSize}
+use Rattle.kernel.specs.Rows.{blendRow}
 use Rattle.kernel.proofs.RunLaws.{rows-fit, striped-none, striped-ends}
 use Rattle.kernel.proofs.PlaneLaws.{renewed-more}
 use Rattle.kernel.proofs.rows.renew_planes.Statement.{statement}
@@ -17,7 +18,7 @@ Inv-loop set₀ key held n planes base o0 o1 o2 from to j₀ at₀ low₀ set j 
     (j ≤ planes)
     × (at ≡ j * n + base)
     × (low ≡ j * blockSize)
-    × Striped (λ (j i : ℕ). blendAt key held (j * blockSize) o0 o1 o2 (i - base)) set₀ set n 0 j (base + from) (base + to)
+    × Striped (blendRow key held o0 o1 o2 base) set₀ set n 0 j (base + from) (base + to)
 
 abbrev μ-loop : tie.MeasureT-loop
 μ-loop set₀ key held n planes base o0 o1 o2 from to j₀ at₀ low₀ set j at low = planes - j

@@ -52,22 +52,23 @@ renew-planes-requires c κs =
     let v = c .before .before .before .before .before .before .before .before .before .run-in .ensures in
     let p = slots-apart (s .pre .1 .1 .1 .0) (omega (arith, s .pre .0 .narrow)) in
     let near = s .pre .1 .1 .1 .1 in
-    omega
-    (arith,
-    s .pre .0,
-    s .pre .1 .0,
-    s .pre .1 .1 .0,
-    near,
-    v .ordered,
-    v .on,
-    c .before .before .before .before .before .before .before .fill-row .kept .0,
-    c .before .before .before .before .offset-of .ensures,
-    c .before .before .before .offset-of2 .ensures,
-    c .before .before .offset-of3 .ensures,
-    slot-fits (s .args .slots) (s .args .w + 2) (s .args .reach .y0) p,
-    slot-fits (s .args .slots) (s .args .w + 2) (s .args .reach .y1) p,
-    slot-fits (s .args .slots) (s .args .w + 2) (s .args .reach .y2) p,
-    rows-fit (s .args .r) 1 (s .args .h) (s .args .w) (omega (arith, s .pre .1 .1 .0)))
+    omega (
+      arith,
+      s .pre .0,
+      s .pre .1 .0,
+      s .pre .1 .1 .0,
+      near,
+      v .ordered,
+      v .on,
+      c .before .before .before .before .before .before .before .fill-row .kept .0,
+      c .before .before .before .before .offset-of .ensures,
+      c .before .before .before .offset-of2 .ensures,
+      c .before .before .offset-of3 .ensures,
+      slot-fits (s .args .slots) (s .args .w + 2) (s .args .reach .y0) p,
+      slot-fits (s .args .slots) (s .args .w + 2) (s .args .reach .y1) p,
+      slot-fits (s .args .slots) (s .args .w + 2) (s .args .reach .y2) p,
+      rows-fit (s .args .r) 1 (s .args .h) (s .args .w) (omega (arith, s .pre .1 .1 .0)),
+    )
 
 -- src/rows.rt:135:1
 same-length : tie.Need-same-length

@@ -78,9 +78,9 @@ loop-again c =
       omega arith,
       omega arith,
       between-more _ _ _ _ _ _ _ (l .inv .2) (omega arith) (omega arith)
-      (blend-of _ _ _ _ _ _ _ _ _ _ _ _ refl (c .before .before .before .greatest-of .ensures) (c .before .before .min2 .ensures) (c .before .greatest-of2 .ensures) (c .max2 .ensures)
-      ∙ ap (λ (j : ℕ). blendAt (a .key .now) (a .held .now) (a .low) (a .o0) (a .o1) (a .o2) j) (let e : l .c ≡ a .at + l .c - a .at = omega arith in e))
-      (omega arith),
+          (blend-of _ _ _ _ _ _ _ _ _ _ _ _ refl (c .before .before .before .greatest-of .ensures) (c .before .before .min2 .ensures) (c .before .greatest-of2 .ensures) (c .max2 .ensures)
+          ∙ ap (λ (j : ℕ). blendAt (a .key .now) (a .held .now) (a .low) (a .o0) (a .o1) (a .o2) j) (let e : l .c ≡ a .at + l .c - a .at = omega arith in e))
+          (omega arith),
     )
 
 -- src/runs.rt:61:1

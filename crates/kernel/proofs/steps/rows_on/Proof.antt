@@ -17,10 +17,10 @@ bias-requires c κs = search needs
 returns : tie.Need-returns
 unfolding down
 returns c = (
-    c .bias .ensures .0
-    ∙ ap (λ (z : ℤ). biased (c .before .before .args .backwards) z)
-    (toZ-ofZ {w = w8} {z = c .before .row-change .result} (search needs) ∙ c .before .row-change .ensures),
-    c .bias .ensures .1,
+  c .bias .ensures .0
+      ∙ ap (λ (z : ℤ). biased (c .before .before .args .backwards) z)
+      (toZ-ofZ {w = w8} {z = c .before .row-change .result} (search needs) ∙ c .before .row-change .ensures),
+  c .bias .ensures .1,
 )
 
 pub rows-on-spec : {M : Type 1} → statement M
