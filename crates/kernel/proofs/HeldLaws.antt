@@ -7,11 +7,10 @@ use mathlib.Core.List.{List}
 use native.Mathlib.Nat.{suc-mul}
 use native.Mathlib.Omega.{arith}
 use lib.ListN.{length, getD, replicate}
-use Rattle.basics.proofs.Numbers.{le-or-lt}
 use Rattle.kernel.specs.Runs.{Striped, blockSize}
 use Rattle.kernel.specs.Sets.{layer}
 use Rattle.kernel.specs.Rows.{Turned, Turned.straight, Turned.once, Turned.twice, Holds}
-use Rattle.kernel.proofs.RunLaws.{rows-fit}
+use Rattle.basics.proofs.Numbers.{le-or-lt, rows-fit}
 use Rattle.kernel.proofs.CellLaws.{cell-on, layer-above, layer-below, layer-left, layer-right}
 
 -- ---- the slots

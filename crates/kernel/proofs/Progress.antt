@@ -9,14 +9,13 @@ use native.Mathlib.Nat.{add-mul}
 use native.Mathlib.Omega.{arith}
 use lib.IntN.{ℤ}
 use lib.ListN.{length, getD, replicate}
-use Rattle.basics.proofs.Numbers.{le-or-lt}
 use Rattle.plate.specs.Opening.{levelAt}
 use Rattle.kernel.specs.Runs.{Striped, blockSize}
 use Rattle.kernel.specs.Sets.{keyBy, layer, renewed, rank, Advanced}
 use Rattle.kernel.specs.Rows.{Reaches, Turned, Turned.straight, Holds, aheadBy, RowRenewed}
 use Rattle.kernel.specs.declared.steps.Reach.{Reach}
 use Rattle.kernel.specs.declared.rows.Slots.{Slots}
-use Rattle.kernel.proofs.RunLaws.{rows-fit}
+use Rattle.basics.proofs.Numbers.{le-or-lt, rows-fit}
 use Rattle.kernel.proofs.HeldLaws.{Apart, slots-apart, turned-on, Rest, others-held, row-comes, zeros-hold}
 use Rattle.kernel.proofs.RowLaws.{ahead-by}
 

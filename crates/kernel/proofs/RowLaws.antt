@@ -8,14 +8,13 @@ use mathlib.Core.List.{List}
 use native.Mathlib.Omega.{arith}
 use lib.IntN.{ℤ}
 use lib.ListN.{length, getD}
-use Rattle.basics.proofs.Numbers.{le-or-lt}
 use Rattle.plate.specs.Opening.{levelAt}
 use Rattle.kernel.specs.Runs.{Between, Striped, blockSize, greatestAt, blendAt}
 use Rattle.kernel.specs.Sets.{keyBy, layer, ahead, rank}
 use Rattle.kernel.specs.Rows.{Near, Reaches, slotOf, Covers, Holds, aheadBy, RowRenewed}
 use Rattle.kernel.specs.declared.steps.Reach.{Reach}
 use Rattle.kernel.specs.declared.rows.Slots.{Slots}
-use Rattle.kernel.proofs.RunLaws.{rows-fit}
+use Rattle.basics.proofs.Numbers.{le-or-lt, rows-fit}
 use Rattle.kernel.proofs.HeldLaws.{Apart}
 
 pub slot-above : (slots : Slots) (y x : ℕ) → y ≡ 0 → slots .above + x ≡ slotOf slots y + x

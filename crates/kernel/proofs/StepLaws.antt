@@ -28,6 +28,10 @@ else-plus (pos (suc zero)) p q = absurd (q refl)
 else-plus (pos (suc (suc n))) p q = refl
 else-plus (negsuc n) p q = refl
 
+-- an entry of the table, as the code reads it
+pub biased-read : (back : Bool) (z d : ℤ) (n : ℕ) → SFits w8 z → n ≡ biased back (toZ w8 (ofZ w8 z)) → z ≡ d → n ≡ biased back d
+biased-read back z d n f e r = e ∙ ap (biased back) (toZ-ofZ {w = w8} {z = z} f ∙ r)
+
 pub biased-back : (back : Bool) (d : ℤ) → back ≡ true → biased back d ≡ 2 - plusOne d
 unfolding biased
 biased-back back d e = rw e

@@ -1,6 +1,6 @@
 use borrow.Author.Needs.{needs}
 use native.Mathlib.Omega.{arith}
-use Rattle.kernel.proofs.RunLaws.{rows-fit}
+use Rattle.basics.proofs.Numbers.{rows-fit}
 use Rattle.kernel.proofs.PlaneLaws.{row-held, zeros-held}
 use Rattle.kernel.proofs.rows.hold.Statement.{statement}
 use Rattle.kernel.proofs.rows.hold.Tie as tie

@@ -5,7 +5,8 @@ use native.Mathlib.Omega.{arith}
 use lib.ListN.{getD}
 use Rattle.kernel.specs.Runs.{blockSize}
 use Rattle.kernel.specs.Rows.{Slotted, rowOf}
-use Rattle.kernel.proofs.RunLaws.{rows-fit, striped-none, striped-ends}
+use Rattle.basics.proofs.Numbers.{rows-fit}
+use Rattle.kernel.proofs.RunLaws.{striped-none, striped-ends}
 use Rattle.kernel.proofs.PlaneLaws.{held-more}
 use Rattle.kernel.proofs.rows.hold_row.Statement.{statement}
 use Rattle.kernel.proofs.rows.hold_row.Tie as tie

@@ -5,7 +5,8 @@ use native.Mathlib.Omega.{arith}
 use lib.ListN.{getD}
 use Rattle.kernel.specs.Runs.{Striped, blockSize}
 use Rattle.kernel.specs.Rows.{blendRow}
-use Rattle.kernel.proofs.RunLaws.{rows-fit, striped-none, striped-ends}
+use Rattle.basics.proofs.Numbers.{rows-fit}
+use Rattle.kernel.proofs.RunLaws.{striped-none, striped-ends}
 use Rattle.kernel.proofs.PlaneLaws.{renewed-more}
 use Rattle.kernel.proofs.rows.renew_planes.Statement.{statement}
 use Rattle.kernel.proofs.rows.renew_planes.Tie as tie

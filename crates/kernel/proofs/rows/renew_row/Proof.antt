@@ -1,7 +1,7 @@
 use Prim.Native.Nat.{_+_}
 use borrow.Author.Needs.{needs}
 use native.Mathlib.Omega.{arith}
-use Rattle.kernel.proofs.RunLaws.{rows-fit}
+use Rattle.basics.proofs.Numbers.{rows-fit}
 use Rattle.kernel.proofs.HeldLaws.{slots-apart}
 use Rattle.kernel.proofs.RowLaws.{slot-fits, row-renewed}
 use Rattle.kernel.proofs.rows.renew_row.Statement.{statement}
