@@ -1,9 +1,9 @@
 -- The run of columns that a band covers in a row. North the rank is that of the whole row; in the other directions it is the column plus a
 -- shift, so that the columns with a rank from lo to hi lie between two bounds.
 use Prim.Native.Nat.{ℕ, zero, suc, _+_, _-_, _≤_, _<_, min}
-use mathlib.Core.Path.{_≡_, refl, sym, ap, _∙_}
+use mathlib.Core.Path.{_≡_, refl}
 use native.Mathlib.Omega.{arith}
-use Rattle.kernel.specs.Sets.{rank}
+use Rattle.kernel.specs.Sets.{rank, InBand}
 use Rattle.kernel.specs.Rows.{shift, Covers}
 
 pub shift-east : (index h r : ℕ) → index ≡ 1 → 0 ≡ shift index h r
@@ -39,10 +39,9 @@ module _ (index w h r lo hi s : ℕ) (is-shift : s ≡ shift index h r) where
       record {
         ordered = omega arith;
         on = omega arith;
-        low = λ c a b. absurd (omega arith);
-        high = λ c a b. absurd (omega arith);
-        left = λ c l a b. omega arith;
-        right = λ c l a b. absurd (n (omega (arith, rank-row index h r c e)) (omega (arith, rank-row index h r c e)));
+        inside = λ c a b. absurd (omega arith);
+        left = λ c l b. omega arith;
+        right = λ c l b. absurd (n (omega (arith, rank-row index h r c e)) (omega (arith, rank-row index h r c e)));
       }
 
   pub all-columns : index ≡ 0 → lo ≤ s → s ≤ hi → Covers index w h r lo hi 0 w
@@ -50,10 +49,9 @@ module _ (index w h r lo hi s : ℕ) (is-shift : s ≡ shift index h r) where
       record {
         ordered = omega arith;
         on = omega arith;
-        low = λ c a b. omega (arith, rank-row index h r c e);
-        high = λ c a b. omega (arith, rank-row index h r c e);
-        left = λ c l a b. omega arith;
-        right = λ c l a b. omega arith;
+        inside = λ c a b. record { low = omega (arith, rank-row index h r c e); high = omega (arith, rank-row index h r c e) };
+        left = λ c l b. omega arith;
+        right = λ c l b. omega arith;
       }
 
   pub some-columns : (from to : ℕ) → (index ≡ 0 → ⊥) → lo ≤ hi → from ≡ min (lo - s) w → to ≡ min (hi + 1 - s) w → Covers index w h r lo hi from to
@@ -61,8 +59,7 @@ module _ (index w h r lo hi s : ℕ) (is-shift : s ≡ shift index h r) where
       record {
         ordered = omega arith;
         on = omega arith;
-        low = λ c a b. omega (arith, rank-column index h r c n);
-        high = λ c a b. omega (arith, rank-column index h r c n);
-        left = λ c l a b. omega (arith, rank-column index h r c n);
-        right = λ c l a b. omega (arith, rank-column index h r c n);
+        inside = λ c a b. record { low = omega (arith, rank-column index h r c n); high = omega (arith, rank-column index h r c n) };
+        left = λ c l b. omega (arith, rank-column index h r c n);
+        right = λ c l b. omega (arith, rank-column index h r c n);
       }

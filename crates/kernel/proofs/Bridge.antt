@@ -13,7 +13,7 @@ use Rattle.plate.specs.Directions.{Step, table, stepAt, stepsIn, steps}
 use Rattle.plate.specs.Paths.{Reached, Reached.at, Reached.leaves, stepFrom, arrivals, reachedBy, next}
 use Rattle.plate.specs.Opening.{levelAt}
 use Rattle.theory.proofs.Reversal.{minus, back}
-use Rattle.kernel.specs.Sets.{keyBy, across, down, layer, ahead, renewed, rank, Advanced}
+use Rattle.kernel.specs.Sets.{keyBy, across, down, layer, ahead, renewed, InBand, Advanced}
 use Rattle.kernel.proofs.Landing.{toward, Small, Small.one-less, Small.no-change, Small.one-more, landing, step-cell}
 
 -- the highest of g over some places, 0 where there is none
@@ -30,6 +30,10 @@ fewer g (suc j) = g j
 unfoldable pub around : Bool → ℕ → ℕ → ℕ → ℕ → List ℕ
 around true W H bit p = back W H bit p
 around false W H bit p = next W H bit p
+
+-- the numbers of plane j, by their place
+abbrev pub planeAt : List ℕ → ℕ → ℕ → ℕ → ℕ
+planeAt set n j q = getD set (j * n + q) 0
 
 -- ---- the steps of the table
 
@@ -66,7 +70,10 @@ best-none : (g : ℕ → ℕ) → best g (arrivals []) ≡ 0
 unfolding best arrivals
 best-none g = refl
 
-best-three : (g : ℕ → ℕ) (W H p : ℕ) (s₀ s₁ s₂ : Step) → best g (reachedBy W H (s₀ ∷ s₁ ∷ s₂ ∷ []) p) ≡ max (max (landing g (stepFrom W H p s₀)) (landing g (stepFrom W H p s₁))) (landing g (stepFrom W H p s₂))
+best-three :
+    (g : ℕ → ℕ) (W H p : ℕ) (s₀ s₁ s₂ : Step) →
+    best g (reachedBy W H (s₀ ∷ s₁ ∷ s₂ ∷ []) p)
+    ≡ max (max (landing g (stepFrom W H p s₀)) (landing g (stepFrom W H p s₁))) (landing g (stepFrom W H p s₂))
 unfolding reachedBy
 best-three g W H p s₀ s₁ s₂ =
     let a = best-first g (stepFrom W H p s₀) (stepFrom W H p s₁ ∷ stepFrom W H p s₂ ∷ []) in
@@ -75,7 +82,9 @@ best-three g W H p s₀ s₁ s₂ =
     let d = best-none g in
     omega arith
 
-around-steps : (backwards : Bool) (W H index p : ℕ) → index < 4 → around backwards W H (2 ^ index) p ≡ reachedBy W H (toward backwards (stepAt index 0) ∷ toward backwards (stepAt index 1) ∷ toward backwards (stepAt index 2) ∷ []) p
+around-steps :
+    (backwards : Bool) (W H index p : ℕ) → index < 4 →
+    around backwards W H (2 ^ index) p ≡ reachedBy W H (toward backwards (stepAt index 0) ∷ toward backwards (stepAt index 1) ∷ toward backwards (stepAt index 2) ∷ []) p
 unfolding around back next toward
 around-steps true W H index p h = ap (λ (ss : List Step). reachedBy W H (map minus ss) p) (steps-at index h)
 around-steps false W H index p h = ap (λ (ss : List Step). reachedBy W H ss p) (steps-at index h)
@@ -87,10 +96,10 @@ module _ (a : List ℕ) (w h index : ℕ) (backwards : Bool) (p : ℕ) (known : 
   unfolding ahead layer
   ahead-none = refl
 
-  pub ahead-best : (j : ℕ) → ahead a w h index backwards (suc j) (p / w) (p % w) ≡ best (λ q. getD a (j * (h * w) + q) 0) (around backwards w h (2 ^ index) p)
+  pub ahead-best : (j : ℕ) → ahead a w h index backwards (suc j) (p / w) (p % w) ≡ best (planeAt a (h * w) j) (around backwards w h (2 ^ index) p)
   unfolding ahead layer across down
   ahead-best j =
-      let g : ℕ → ℕ = λ (q : ℕ). getD a (j * (h * w) + q) 0 in
+      let g = planeAt a (h * w) j in
       let s₀ = small-steps index 0 known (omega arith) in
       let s₁ = small-steps index 1 known (omega arith) in
       let s₂ = small-steps index 2 known (omega arith) in
@@ -103,27 +112,41 @@ module _ (a : List ℕ) (w h index : ℕ) (backwards : Bool) (p : ℕ) (known : 
         step-cell a (j * (h * w)) w h backwards (stepAt index 2) p (s₂ .column) (s₂ .row) on,
       ))
 
-  lower-best : (j : ℕ) → ahead a w h index backwards j (p / w) (p % w) ≡ fewer (λ i. best (λ q. getD a (i * (h * w) + q) 0) (around backwards w h (2 ^ index) p)) j
+  lower-best :
+      (j : ℕ) → ahead a w h index backwards j (p / w) (p % w) ≡ fewer (λ i. best (planeAt a (h * w) i) (around backwards w h (2 ^ index) p)) j
   unfolding fewer
   lower-best zero = ahead-none
   lower-best (suc j) = ahead-best j
 
-module _ (old new : List ℕ) (plate : List ℤ) (mode w h gaps index : ℕ) (backwards : Bool) (lo hi : ℕ) (wide : 1 ≤ w) (known : index < 4) (d : Advanced old new plate mode w h gaps index backwards lo hi) (j p : ℕ) (of-set : j ≤ gaps) (on : p < w * h) where
+module _ (old new : List ℕ) (plate : List ℤ) (mode w h gaps index : ℕ) (backwards : Bool) (lo hi : ℕ)
+    (wide : 1 ≤ w)
+    (known : index < 4)
+    (d : Advanced old new plate mode w h gaps index backwards lo hi)
+    (j p : ℕ)
+    (of-set : j ≤ gaps)
+    (on : p < w * h) where
   row-on : p / w < h
   row-on = div-lt-iff-lt-mul wide .1 (omega (arith, mul-comm w h))
 
   -- a pixel in the band
-  pub advanced-inside : lo ≤ rank index h (p / w) (p % w) → rank index h (p / w) (p % w) ≤ hi → getD new (j * (h * w) + p) 0 ≡ max (min (keyBy mode (levelAt plate p)) (best (λ q. getD old (j * (h * w) + q) 0) (around backwards w h (2 ^ index) p))) (fewer (λ i. best (λ q. getD old (i * (h * w) + q) 0) (around backwards w h (2 ^ index) p)) j)
+  pub advanced-inside :
+      InBand index h lo hi (p / w) (p % w) →
+      getD new (j * (h * w) + p) 0
+      ≡ max
+      (min (keyBy mode (levelAt plate p)) (best (planeAt old (h * w) j) (around backwards w h (2 ^ index) p)))
+      (fewer (λ i. best (planeAt old (h * w) i) (around backwards w h (2 ^ index) p)) j)
   unfolding renewed
-  advanced-inside l m =
+  advanced-inside i =
       subst
-      (λ (x : ℕ). getD new (j * (h * w) + x) 0 ≡ max (min (keyBy mode (levelAt plate x)) (ahead old w h index backwards (suc j) (p / w) (p % w))) (ahead old w h index backwards j (p / w) (p % w)))
+      (λ (x : ℕ).
+      getD new (j * (h * w) + x) 0
+      ≡ max (min (keyBy mode (levelAt plate x)) (ahead old w h index backwards (suc j) (p / w) (p % w))) (ahead old w h index backwards j (p / w) (p % w)))
       (div-add-mod' p w)
-      (d .inside j (p / w) (p % w) of-set row-on (mod-lt p wide) l m)
+      (d .inside j (p / w) (p % w) of-set row-on (mod-lt p wide) i)
       ∙ rw (ahead-best old w h index backwards p known on j, lower-best old w h index backwards p known on j)
 
   -- a pixel out of it
-  pub advanced-outside : (lo ≤ rank index h (p / w) (p % w) → rank index h (p / w) (p % w) ≤ hi → ⊥) → getD new (j * (h * w) + p) 0 ≡ getD old (j * (h * w) + p) 0
+  pub advanced-outside : (InBand index h lo hi (p / w) (p % w) → ⊥) → getD new (j * (h * w) + p) 0 ≡ getD old (j * (h * w) + p) 0
   advanced-outside out =
       subst (λ (x : ℕ). getD new (j * (h * w) + x) 0 ≡ getD old (j * (h * w) + x) 0) (div-add-mod' p w)
       (d .outside j (p / w) (p % w) of-set row-on (mod-lt p wide) out)

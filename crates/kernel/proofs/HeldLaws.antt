@@ -7,9 +7,10 @@ use mathlib.Core.List.{List}
 use native.Mathlib.Nat.{suc-mul}
 use native.Mathlib.Omega.{arith}
 use lib.ListN.{length, getD, replicate}
-use Rattle.kernel.specs.Runs.{Striped, blockSize}
+use Rattle.basics.proofs.Lists.{replicate-default}
+use Rattle.kernel.specs.Runs.{blockSize}
 use Rattle.kernel.specs.Sets.{layer}
-use Rattle.kernel.specs.Rows.{Turned, Turned.straight, Turned.once, Turned.twice, Holds}
+use Rattle.kernel.specs.Rows.{Turned, Turned.straight, Turned.once, Turned.twice, Slotted, layerRow, Holds}
 use Rattle.basics.proofs.Numbers.{le-or-lt, rows-fit}
 use Rattle.kernel.proofs.CellLaws.{cell-on, layer-above, layer-below, layer-left, layer-right}
 
@@ -42,7 +43,9 @@ turned-on twice = straight
 pub record Rest (old set : List ℕ) (n from : ℕ) : Type 0 where
   pub same : (j i : ℕ) → from ≤ i → i < n → getD set (j * n + i) 0 ≡ getD old (j * n + i) 0
 
-rest-layer : (old set : List ℕ) (w h row b X : ℕ) → Rest old set (h * w) (row * w) → 1 ≤ b → 1 ≤ X → X ≤ w → layer set w h b (row + 1) X ≡ layer old w h b (row + 1) X
+rest-layer :
+    (old set : List ℕ) (w h row b X : ℕ) → Rest old set (h * w) (row * w) → 1 ≤ b → 1 ≤ X → X ≤ w →
+    layer set w h b (row + 1) X ≡ layer old w h b (row + 1) X
 unfolding layer
 rest-layer old set w h row zero X g o p q = absurd (omega arith)
 rest-layer old set w h row (suc j) X g o p q =
@@ -56,9 +59,11 @@ rest-layer old set w h row (suc j) X g o p q =
 
 -- ---- a row comes in
 
-module _ (old set held new : List ℕ) (w h planes row slot : ℕ) (s : Striped (λ (b i : ℕ). layer set w h b (row + 1) (i - slot)) held new blockSize 1 (planes + 1) (slot + 1) (slot + 1 + w)) where
+module _ (old set held new : List ℕ) (w h planes row slot : ℕ) (s : Slotted (layerRow set w h row slot) held new (planes + 1) slot w) where
   -- the other slots keep their rows
-  pub others-held : (at Y : ℕ) → at + (w + 2) ≤ blockSize → (at + (w + 2) ≤ slot) ⊎ (slot + (w + 2) ≤ at) → Holds old held w h planes at Y → Holds old new w h planes at Y
+  pub others-held :
+      (at Y : ℕ) → at + (w + 2) ≤ blockSize → (at + (w + 2) ≤ slot) ⊎ (slot + (w + 2) ≤ at) →
+      Holds old held w h planes at Y → Holds old new w h planes at Y
   others-held at Y f o g =
       record {
         is = λ b X p q.
@@ -69,7 +74,10 @@ module _ (old set held new : List ℕ) (w h planes row slot : ℕ) (s : Striped 
       }
 
   -- the slot, which held some row before, now holds this one
-  module _ (q : ℕ) (fits : slot + (w + 2) ≤ blockSize) (rest : Rest old set (h * w) (row * w)) (held-before : Holds old held w h planes slot q) where
+  module _ (q : ℕ)
+      (fits : slot + (w + 2) ≤ blockSize)
+      (rest : Rest old set (h * w) (row * w))
+      (held-before : Holds old held w h planes slot q) where
     came : (b X : ℕ) → b ≤ planes → X ≤ w + 1 → getD new (b * blockSize + (slot + X)) 0 ≡ layer old w h b (row + 1) X
     unfolding layer
     came zero X p m = s .before 0 (slot + X) (omega arith) (omega arith) ∙ held-before .is 0 X p m
@@ -95,11 +103,6 @@ module _ (old set held new : List ℕ) (w h planes row slot : ℕ) (s : Striped 
 
 -- ---- the start: zeros are the row above the first
 
-zero-at : (n k : ℕ) → _≡_ {A = ℕ} (getD (replicate n 0) k 0) 0
-zero-at zero k = refl
-zero-at (suc n) zero = refl
-zero-at (suc n) (suc k) = zero-at n k
-
 pub zeros-hold : (old : List ℕ) (n w h planes at : ℕ) → Holds old (replicate n 0) w h planes at 0
 zeros-hold old n w h planes at =
-    record { is = λ b X p q. zero-at n (b * blockSize + (at + X)) ∙ sym (layer-above old w h b 0 X (omega arith)) }
+    record { is = λ b X p q. replicate-default n (b * blockSize + (at + X)) 0 ∙ sym (layer-above old w h b 0 X (omega arith)) }

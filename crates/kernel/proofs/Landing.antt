@@ -69,7 +69,9 @@ moved false c one-more = less-up c
 -- ---- the place reached
 
 module _ (a : List ℕ) (start W H : ℕ) where
-  on-plate : (c r : ℕ) → c < W → r < H → landing (λ q. getD a (start + q) 0) (placeAt W H (pos c) (pos r)) ≡ cell a start W H (suc r) (suc c)
+  on-plate :
+      (c r : ℕ) → c < W → r < H →
+      landing (λ q. getD a (start + q) 0) (placeAt W H (pos c) (pos r)) ≡ cell a start W H (suc r) (suc c)
   unfolding landing placeAt
   on-plate c r l m =
       rw (lt-ltb c W l, lt-ltb r H m)
@@ -93,7 +95,9 @@ module _ (a : List ℕ) (start W H : ℕ) where
       ]
 
   -- what a step leads to from a place of the plate
-  pub step-cell : (back : Bool) (s : Step) (p : ℕ) → Small (s .column) → Small (s .row) → p < W * H → landing (λ q. getD a (start + q) 0) (stepFrom W H p (toward back s)) ≡ cell a start W H (p / W + biased back (s .row)) (p % W + biased back (s .column))
+  pub step-cell :
+      (back : Bool) (s : Step) (p : ℕ) → Small (s .column) → Small (s .row) → p < W * H →
+      landing (λ q. getD a (start + q) 0) (stepFrom W H p (toward back s)) ≡ cell a start W H (p / W + biased back (s .row)) (p % W + biased back (s .column))
   unfolding stepFrom toward minus
   step-cell true s p dc dr l =
       rw (lt-ltb p (W * H) l, moved true (p % W) dc, moved true (p / W) dr)

@@ -7,7 +7,7 @@ use lib.ListN.{length, getD}
 use lib.IntN.{ℤ}
 use Rattle.plate.specs.Opening.{levelAt}
 use Rattle.kernel.specs.Runs.{Striped, blockSize, blendAt}
-use Rattle.kernel.specs.Sets.{keyBy, across, down, layer, rank}
+use Rattle.kernel.specs.Sets.{keyBy, across, down, layer, InBand}
 use Rattle.kernel.specs.declared.steps.Reach.{Reach}
 use Rattle.kernel.specs.declared.rows.Slots.{Slots}
 
@@ -53,14 +53,13 @@ shift (suc zero) h r = 0
 shift (suc (suc zero)) h r = h - 1 - r
 shift (suc (suc (suc index))) h r = r
 
--- the columns from .. below to of row r are those with a rank from lo to hi
+-- the columns of row r from `from` below `to` are those in the band
 pub record Covers (index w h r lo hi from to : ℕ) : Type 0 where
   pub ordered : from ≤ to
   pub on : to ≤ w
-  pub low : (c : ℕ) → from ≤ c → c < to → lo ≤ rank index h r c
-  pub high : (c : ℕ) → from ≤ c → c < to → rank index h r c ≤ hi
-  pub left : (c : ℕ) → c < w → lo ≤ rank index h r c → rank index h r c ≤ hi → from ≤ c
-  pub right : (c : ℕ) → c < w → lo ≤ rank index h r c → rank index h r c ≤ hi → c < to
+  pub inside : (c : ℕ) → from ≤ c → c < to → InBand index h lo hi r c
+  pub left : (c : ℕ) → c < w → InBand index h lo hi r c → from ≤ c
+  pub right : (c : ℕ) → c < w → InBand index h lo hi r c → c < to
 
 -- ---- rows
 
@@ -92,20 +91,28 @@ blendRow key held o0 o1 o2 base j i = blendAt key held (j * blockSize) o0 o1 o2 
 pub record Holds (old held : List ℕ) (w h planes at Y : ℕ) : Type 0 where
   pub is : (b X : ℕ) → b ≤ planes → X ≤ w + 1 → getD held (b * blockSize + (at + X)) 0 ≡ layer old w h b Y X
 
--- the greatest number that the steps lead to from row r and column c
+-- rows r − 1, r and r + 1 are held
+pub record ThreeHeld (old held : List ℕ) (w h planes : ℕ) (slots : Slots) (r : ℕ) : Type 0 where
+  pub above : Holds old held w h planes (slots .above) r
+  pub here : Holds old held w h planes (slots .here) (r + 1)
+  pub below : Holds old held w h planes (slots .below) (r + 2)
+
+-- the greatest number of a layer that the steps lead to from row r and column c
 unfoldable pub aheadBy : List ℕ → ℕ → ℕ → Reach → ℕ → ℕ → ℕ → ℕ
 aheadBy a w h reach b r c =
     max
     (max (layer a w h b (r + reach .y0) (c + reach .x0)) (layer a w h b (r + reach .y1) (c + reach .x1)))
     (layer a w h b (r + reach .y2) (c + reach .x2))
 
--- row r of each plane is renewed in the band, whatever the old set is of which rows r − 1, r and r + 1 are held
+-- the new number of plane j there, for a pixel with this key
+abbrev pub renewedBy : List ℕ → ℕ → ℕ → Reach → ℕ → ℕ → ℕ → ℕ → ℕ
+renewedBy a w h reach key j r c = max (min key (aheadBy a w h reach (suc j) r c)) (aheadBy a w h reach j r c)
+
+-- row r of each plane is renewed in the band, whatever the old set is of which the rows are held
 pub record RowRenewed (set new held : List ℕ) (plate : List ℤ) (mode w h n planes index : ℕ) (reach : Reach) (slots : Slots) (r base lo hi : ℕ) : Type 0 where
-  pub inside : (old : List ℕ) → Holds old held w h planes (slots .above) r → Holds old held w h planes (slots .here) (r + 1) →
-      Holds old held w h planes (slots .below) (r + 2) → (j c : ℕ) → j < planes → c < w → lo ≤ rank index h r c → rank index h r c ≤ hi →
-      getD new (j * n + (base + c)) 0
-      ≡ max (min (keyBy mode (levelAt plate (base + c))) (aheadBy old w h reach (suc j) r c)) (aheadBy old w h reach j r c)
-  pub outside : (j c : ℕ) → c < w → (lo ≤ rank index h r c → rank index h r c ≤ hi → ⊥) →
+  pub inside : (old : List ℕ) → ThreeHeld old held w h planes slots r → (j c : ℕ) → j < planes → c < w → InBand index h lo hi r c →
+      getD new (j * n + (base + c)) 0 ≡ renewedBy old w h reach (keyBy mode (levelAt plate (base + c))) j r c
+  pub outside : (j c : ℕ) → c < w → (InBand index h lo hi r c → ⊥) →
       getD new (j * n + (base + c)) 0 ≡ getD set (j * n + (base + c)) 0
   pub under : (j i : ℕ) → i < base → getD new (j * n + i) 0 ≡ getD set (j * n + i) 0
   pub over : (j i : ℕ) → base + w ≤ i → i < n → getD new (j * n + i) 0 ≡ getD set (j * n + i) 0

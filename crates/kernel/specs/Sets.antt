@@ -73,10 +73,15 @@ rank (suc zero) h r c = c
 rank (suc (suc zero)) h r c = c + (h - 1 - r)
 rank (suc (suc (suc index))) h r c = c + r
 
--- new is old after one step of the set: the pixels with a rank from lo to hi are renewed, and the others kept
+-- the pixel at row r and column c has a rank from lo to hi
+pub record InBand (index h lo hi r c : ℕ) : Type 0 where
+  pub low : lo ≤ rank index h r c
+  pub high : rank index h r c ≤ hi
+
+-- new is old after one step of the set: the pixels in the band are renewed, and the others kept
 pub record Advanced (old new : List ℕ) (plate : List ℤ) (mode w h gaps index : ℕ) (back : Bool) (lo hi : ℕ) : Type 0 where
-  pub inside : (j r c : ℕ) → j ≤ gaps → r < h → c < w → lo ≤ rank index h r c → rank index h r c ≤ hi →
+  pub inside : (j r c : ℕ) → j ≤ gaps → r < h → c < w → InBand index h lo hi r c →
       getD new (j * (h * w) + (r * w + c)) 0 ≡ renewed old plate mode w h index back j r c
-  pub outside : (j r c : ℕ) → j ≤ gaps → r < h → c < w → (lo ≤ rank index h r c → rank index h r c ≤ hi → ⊥) →
+  pub outside : (j r c : ℕ) → j ≤ gaps → r < h → c < w → (InBand index h lo hi r c → ⊥) →
       getD new (j * (h * w) + (r * w + c)) 0 ≡ getD old (j * (h * w) + (r * w + c)) 0
   pub len : length new ≡ length old

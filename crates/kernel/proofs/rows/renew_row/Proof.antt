@@ -83,8 +83,8 @@ returns : tie.Need-returns
 returns c =
     let s = c .before .before .before .before .before .before .before .before .before .before .before .before .before .before .before .before in
     row-renewed _ _ _ _ _ _ _ _ _ _ _ _ _ _ _ _ _ _ _ _ _ _ _ (s .pre .0 .pixels) (s .pre .1 .1 .0 .1) (s .pre .1 .1 .0 .2) (s .pre .1 .1 .1 .1)
-    (c .before .before .before .before .before .before .before .before .before .before .before .before .run-in .ensures) (c .before .before .before .before .before .before .before .before .before .before .fill-row .ensures) (c .before .before .before .before .before .before .before .offset-of .ensures) (c .before .before .before .before .before .before .offset-of2 .ensures) (c .before .before .before .before .before .offset-of3 .ensures)
-    (c .before .before .renew-planes .ensures)
+    (record { is-0 = c .before .before .before .before .before .before .before .offset-of .ensures; is-1 = c .before .before .before .before .before .before .offset-of2 .ensures; is-2 = c .before .before .before .before .before .offset-of3 .ensures })
+    (c .before .before .before .before .before .before .before .before .before .before .before .before .run-in .ensures) (c .before .before .before .before .before .before .before .before .before .before .fill-row .ensures) (c .before .before .renew-planes .ensures)
 
 pub renew-row-spec : {M : Type 1} → statement M
 renew-row-spec =
