@@ -3,7 +3,7 @@
 use Prim.Native.Nat.{ℕ, zero, suc, _+_, _-_, _≤_, _<_, min}
 use mathlib.Core.Path.{_≡_, refl}
 use native.Mathlib.Omega.{arith}
-use Rattle.kernel.specs.Sets.{rank, InBand}
+use Rattle.kernel.specs.Sets.{rank}
 use Rattle.kernel.specs.Rows.{shift, Covers}
 
 pub shift-east : (index h r : ℕ) → index ≡ 1 → 0 ≡ shift index h r

@@ -1,12 +1,11 @@
 -- The held rows. When a row comes into one slot of each block, the other slots keep theirs, because the three slots do not overlap; the zeros
 -- before and after a row stay, because no row is written over them.
 use Prim.Native.Nat.{ℕ, zero, suc, _+_, _-_, _*_, _≤_, _<_}
-use mathlib.Core.Path.{_≡_, refl, sym, ap, _∙_, subst}
+use mathlib.Core.Path.{_≡_, sym, ap, _∙_}
 use mathlib.Core.Logic.{_⊎_, inl, inr}
 use mathlib.Core.List.{List}
-use native.Mathlib.Nat.{suc-mul}
 use native.Mathlib.Omega.{arith}
-use lib.ListN.{length, getD, replicate}
+use lib.ListN.{getD, replicate}
 use Rattle.basics.proofs.Lists.{replicate-default}
 use Rattle.kernel.specs.Runs.{blockSize}
 use Rattle.kernel.specs.Sets.{layer}

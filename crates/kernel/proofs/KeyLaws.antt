@@ -1,10 +1,8 @@
 -- The sums by which the code makes keys are natural numbers: a level plus 32768 is its key, and 32767 less a level is the key of its mirror.
-use Prim.Native.Nat.{ℕ, zero, suc, _+_, _-_, _≤_, _<_}
+use Prim.Native.Nat.{ℕ, zero, suc, _+_, _-_, _<_}
 use mathlib.Core.Path.{_≡_, refl, sym, ap, _∙_}
-use mathlib.Core.Bool.{Bool, true, false}
-use mathlib.Core.List.{List, [], _∷_}
+use mathlib.Core.List.{List}
 use native.Mathlib.Omega.{arith}
-use lib.Dec.{eqb}
 use lib.ListN.{length, getD}
 use lib.IntN.{ℤ, pos, negsuc, _+ℤ_, _-ℤ_}
 use lib.Signed.{mag}
@@ -13,7 +11,7 @@ use mir.Syntax.{w16, w32}
 use mir.Val.{SFits, toZ, ofZ}
 use mir.Facts.{toZ-ofZ}
 use Rattle.basics.proofs.Lists.{any-default}
-use Rattle.plate.specs.Levels.{lowest, level, key, mirror}
+use Rattle.plate.specs.Levels.{lowest, key, mirror}
 use Rattle.plate.specs.Opening.{levelAt}
 use Rattle.plate.proofs.Keys.{level-key, key-level, key-bound, mirror-level}
 use Rattle.kernel.specs.Sets.{keyBy}

@@ -1,7 +1,7 @@
 -- The step of a whole set, row by row. Before row r the rows above it are done, the set from row r on is old, and rows r − 1 and r of the old set
 -- are held; the third slot holds an earlier row, over which row r + 1 comes. In place: what is held was read before row r is written.
-use Prim.Native.Nat.{ℕ, suc, _+_, _-_, _*_, _≤_, _<_, min, max}
-use mathlib.Core.Path.{_≡_, refl, sym, ap, _∙_, subst}
+use Prim.Native.Nat.{ℕ, suc, _+_, _-_, _*_, _≤_, _<_}
+use mathlib.Core.Path.{_≡_, refl, sym, _∙_, subst}
 use mathlib.Core.Logic.{inl, inr}
 use mathlib.Core.Bool.{Bool}
 use mathlib.Core.List.{List}

@@ -1,6 +1,6 @@
 -- A renewed row. What the offsets read in the held rows are the numbers that the steps lead to, so that the blend makes the new numbers; the run
 -- of columns is the band's, so that the rest of the row is kept.
-use Prim.Native.Nat.{ℕ, zero, suc, _+_, _-_, _*_, _≤_, _<_, min, max}
+use Prim.Native.Nat.{ℕ, zero, suc, _+_, _-_, _*_, _≤_, _<_}
 use mathlib.Core.Path.{_≡_, refl, ap, _∙_}
 use mathlib.Core.Logic.{inl, inr}
 use mathlib.Core.Bool.{Bool}

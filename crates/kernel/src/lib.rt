@@ -9,7 +9,7 @@
 // It takes about (gaps + 1) * w * h turns of the inner loop and 63 KB of its own on the stack. The
 // crate is internal to the engine, whose calls meet each `requires`.
 ghost use mathlib.Core.Path.{_≡_};
-ghost use Prim.Native.Nat.{ℕ, _+_, _*_, _≤_, _<_};
+ghost use Prim.Native.Nat.{_+_, _*_, _≤_, _<_};
 ghost use lib.ListN.{length};
 ghost use Rattle.kernel.specs.Sets.{Advanced};
 

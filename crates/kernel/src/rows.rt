@@ -1,7 +1,6 @@
 ghost use mathlib.Core.Path.{_≡_};
-ghost use mathlib.Core.List.{List};
-ghost use Prim.Native.Nat.{ℕ, _+_, _-_, _*_, _≤_, _<_};
-ghost use lib.ListN.{length, getD};
+ghost use Prim.Native.Nat.{ℕ, _+_, _*_, _≤_, _<_};
+ghost use lib.ListN.{length};
 ghost use Rattle.kernel.specs.Runs.{Striped, blockSize};
 ghost use Rattle.kernel.specs.Rows.{Near, slotOf, Turned, Sized, Slotted, rowOf, layerRow, blendRow, RowRenewed};
 use crate::band::run_in;

@@ -1,7 +1,7 @@
 ghost use mathlib.Core.Path.{_≡_};
-ghost use Prim.Native.Nat.{ℕ, _+_, _≤_, _<_};
+ghost use Prim.Native.Nat.{_≤_};
 ghost use Rattle.kernel.specs.Sets.{biased, across, down};
-ghost use Rattle.kernel.specs.Rows.{Reaches, slotOf};
+ghost use Rattle.kernel.specs.Rows.{Reaches};
 
 // Where the three steps of a direction lead, in columns and rows plus one.
 pub(crate) struct Reach {

@@ -1,4 +1,6 @@
-use Prim.Native.Nat.{ℕ, _+_, _-_, _*_, _≤_}
+-- `advance` meets its contract. The invariant before row r: the rows above are done (`Rows`), the set from row r on is old (`Rest`), and rows r − 1
+-- and r of the old set are held (`Window`). Progress.antt shows that one row more keeps all three.
+use Prim.Native.Nat.{_+_, _-_, _*_, _≤_}
 use mathlib.Core.Path.{_≡_, refl, _∙_}
 use native.Mathlib.Nat.{add-mul}
 use native.Mathlib.Omega.{arith}
@@ -10,12 +12,6 @@ use Rattle.kernel.proofs.HeldLaws.{Rest, slots-apart}
 use Rattle.kernel.proofs.Progress.{Rows, Window, rows-none, rest-all, window-start, window-more, rest-more, rows-more, rows-all}
 use Rattle.kernel.proofs.advance.Statement.{statement}
 use Rattle.kernel.proofs.advance.Tie as tie
-use Rattle.kernel.proofs.advance.Reads as reads
-use Rattle.kernel.proofs.advance.Lts as lts
-use Rattle.kernel.proofs.rows.hold.Reads as hold-reads
-use Rattle.kernel.proofs.rows.renew_row.Reads as renew-row-reads
-use Rattle.kernel.proofs.rows.turned.Reads as turned-reads
-use Rattle.kernel.proofs.steps.reach_of.Reads as reach-of-reads
 
 abbrev Inv-loop : tie.InvT-loop
 Inv-loop set₀ plate mode w h gaps index backwards lo hi reach n planes s held₀ key₀ slots₀ r₀ base₀ set held key slots r base =
@@ -32,29 +28,23 @@ abbrev μ-loop : tie.MeasureT-loop
 μ-loop set₀ plate mode w h gaps index backwards lo hi reach n planes s held₀ key₀ slots₀ r₀ base₀ set held key slots r base =
     h - r
 
--- src/lib.rt:47:9
 reach-of-requires : tie.Need-reach-of-requires Inv-loop μ-loop
 reach-of-requires c κs = tt
 
--- src/lib.rt:48:13
 mul-n : tie.Need-mul-n Inv-loop μ-loop
 mul-n c =
     let s = c .before .before in
     omega (arith, s .good, s .pre)
 
--- src/lib.rt:49:18
 add-planes : tie.Need-add-planes Inv-loop μ-loop
 add-planes c = omega arith
 
--- src/lib.rt:50:13
 add-s : tie.Need-add-s Inv-loop μ-loop
 add-s c = omega arith
 
--- src/lib.rt:53:10
 slice-aggregate-hold : tie.Need-slice-aggregate-hold Inv-loop μ-loop
 slice-aggregate-hold c = search needs
 
--- src/lib.rt:53:5
 hold-requires : tie.Need-hold-requires Inv-loop μ-loop
 hold-requires c κs =
     let s = c .before .before .before .before in (
@@ -62,11 +52,9 @@ hold-requires c κs =
       omega (arith, s .pre .0),
     )
 
--- src/lib.rt:57:16
 add-t26 : tie.Need-add-t26 Inv-loop μ-loop
 add-t26 c = omega arith
 
--- src/lib.rt:61:5
 loop-holds : tie.Need-loop-holds Inv-loop μ-loop
 loop-holds c =
     let s = c .before .before .before .before .before .before in
@@ -81,22 +69,18 @@ loop-holds c =
       rows-none _ _ _ _ _ _ _ _ _ _,
     )
 
--- src/lib.rt:62:20
 add-next : tie.Need-add-next Inv-loop μ-loop
 add-next c =
     let s = c .before .before .before .before .before .before .before .before in
     let l = c .before .loop in
     omega (arith, s .good, s .pre, l .inv .0, l .inv .1, rows-fit (l .r) 1 (s .args .h) (s .args .w) (omega arith))
 
--- src/lib.rt:63:14
 slice-aggregate-hold-2 : tie.Need-slice-aggregate-hold-2 Inv-loop μ-loop
 slice-aggregate-hold-2 c = search needs
 
--- src/lib.rt:63:47
 add-hold : tie.Need-add-hold Inv-loop μ-loop
 add-hold c = omega arith
 
--- src/lib.rt:63:9
 hold-requires-2 : tie.Need-hold-requires-2 Inv-loop μ-loop
 hold-requires-2 c κs =
     let s = c .before .before .before .before .before .before .before .before .before .before in
@@ -106,15 +90,12 @@ hold-requires-2 c κs =
       omega (arith, s .pre .0, l .inv .1, l .inv .3, p .below-fits, add-mul (l .r) 1 (s .args .w)),
     )
 
--- src/lib.rt:66:13
 slice-aggregate-renew-row : tie.Need-slice-aggregate-renew-row Inv-loop μ-loop
 slice-aggregate-renew-row c = search needs
 
--- src/lib.rt:67:13
 slice-aggregate-renew-row-2 : tie.Need-slice-aggregate-renew-row-2 Inv-loop μ-loop
 slice-aggregate-renew-row-2 c = search needs
 
--- src/lib.rt:64:9
 renew-row-requires : tie.Need-renew-row-requires Inv-loop μ-loop
 renew-row-requires c κs =
     let s = c .before .before .before .before .before .before .before .before .before .before .before .before .before .before .before in
@@ -123,19 +104,15 @@ renew-row-requires c κs =
     record { wide = s .pre .0 .0; narrow = s .pre .0 .1; pixels = refl; few = omega (arith, s .pre .0); whole = l .inv .2 ∙ s .pre .1 .1 } in
     (sized, ((omega (arith, s .pre, l .inv .4), s .pre .1 .0, omega (arith, s .pre, l .inv .3, c .before .before .before .before .hold2 .kept .0)), ((s .pre .0 .5, c .before .before .before .before .before .before .before .loop-test .taken, l .inv .1, s .pre .0 .6), (l .inv .5 .turned, c .before .before .before .before .before .before .before .before .before .before .before .before .before .reach-of .ensures .near))))
 
--- src/lib.rt:82:9
 turned-requires : tie.Need-turned-requires Inv-loop μ-loop
 turned-requires c κs = tt
 
--- src/lib.rt:83:9
 add-r : tie.Need-add-r Inv-loop μ-loop
 add-r c = omega (arith, c .before .before .before .before .before .before .before .before .before .before .before .before .before .before .before .before .before .before .before .before .pre .0, c .before .before .before .before .before .before .before .before .before .before .before .before .loop-test .taken)
 
--- src/lib.rt:61:5
 loop-less : tie.Need-loop-less Inv-loop μ-loop
 loop-less c = omega arith
 
--- src/lib.rt:61:5
 loop-again : tie.Need-loop-again Inv-loop μ-loop
 loop-again c =
     let s = c .before .before .before .before .before .before .before .before .before .before .before .before .before .before .before .before .before .before .before .before in
@@ -154,11 +131,9 @@ loop-again c =
       rows-more _ _ _ _ _ _ _ _ _ _ _ _ _ _ _ _ _ _ (s .pre .0 .1) reaches (l .inv .1) (l .inv .6) (l .inv .5) (d .ensures) (v .ensures) on (l .inv .7),
     )
 
--- src/lib.rt:31:1
 same-length : tie.Need-same-length Inv-loop μ-loop
 same-length c = search needs
 
--- src/lib.rt:31:1
 returns : tie.Need-returns Inv-loop μ-loop
 returns c = rows-all _ _ _ _ _ _ _ _ _ _ _ _ (c .before .loop .inv .7) (omega arith) (c .before .loop .inv .2)
 

@@ -1,3 +1,4 @@
+-- `fill_keys` meets its contract: the run of keys grows by one column a turn. An element is read as its bits, so that its level is told by `level-read`.
 use Prim.Native.Nat.{ℕ, _+_, _-_, _≤_}
 use native.Mathlib.Omega.{arith}
 use Rattle.plate.specs.Levels.{key}
@@ -7,9 +8,6 @@ use Rattle.kernel.proofs.RunLaws.{between-none, between-more, between-e
 use Rattle.kernel.proofs.KeyLaws.{level-read}
 use Rattle.kernel.proofs.keys.fill_keys.Statement.{statement}
 use Rattle.kernel.proofs.keys.fill_keys.Tie as tie
-use Rattle.kernel.proofs.keys.fill_keys.Reads as reads
-use Rattle.kernel.proofs.keys.fill_keys.Lts as lts
-use Rattle.kernel.proofs.keys.key_of.Reads as key-of-reads
 
 abbrev Inv-loop : tie.InvT-loop
 Inv-loop row₀ plate start from to c₀ row c =
@@ -18,43 +16,33 @@ Inv-loop row₀ plate start from to c₀ row c =
 abbrev μ-loop : tie.MeasureT-loop
 μ-loop row₀ plate start from to c₀ row c = to - c
 
--- src/keys.rt:29:5
 loop-holds : tie.Need-loop-holds Inv-loop μ-loop
 loop-holds c = (omega arith, omega arith, between-none _ _ _ _ (omega arith))
 
--- src/keys.rt:30:31
 add-key-of : tie.Need-add-key-of Inv-loop μ-loop
 add-key-of c = omega arith
 
--- src/keys.rt:30:25
 mul-key-of : tie.Need-mul-key-of Inv-loop μ-loop
 mul-key-of c = omega arith
 
--- src/keys.rt:30:25
 shared-slice-copy-out-key-of : tie.Need-shared-slice-copy-out-key-of Inv-loop μ-loop
 shared-slice-copy-out-key-of c = omega arith
 
--- src/keys.rt:30:18
 key-of-requires : tie.Need-key-of-requires Inv-loop μ-loop
 key-of-requires c κs = tt
 
--- src/keys.rt:30:9
 mul-row : tie.Need-mul-row Inv-loop μ-loop
 mul-row c = omega arith
 
--- src/keys.rt:30:9
 slice-write-row : tie.Need-slice-write-row Inv-loop μ-loop
 slice-write-row c = omega arith
 
--- src/keys.rt:31:9
 add-c : tie.Need-add-c Inv-loop μ-loop
 add-c c = omega arith
 
--- src/keys.rt:29:5
 loop-less : tie.Need-loop-less Inv-loop μ-loop
 loop-less c = omega arith
 
--- src/keys.rt:29:5
 loop-again : tie.Need-loop-again Inv-loop μ-loop
 loop-again c =
     let a = c .before .before .before .before .before .args in
@@ -64,11 +52,9 @@ loop-again c =
       between-more _ _ _ _ _ _ _ (l .inv .2) (omega arith) (omega arith) (level-read key (a .plate .now) (a .start + l .c) _ (c .before .key-of-arg .given) (omega arith) (c .key-of .ensures)) (omega arith),
     )
 
--- src/keys.rt:24:1
 same-length : tie.Need-same-length Inv-loop μ-loop
 same-length c = omega arith
 
--- src/keys.rt:24:1
 returns : tie.Need-returns Inv-loop μ-loop
 returns c = between-ends _ _ _ _ _ _ (c .before .loop .inv .2) (omega arith)
 

@@ -1,3 +1,4 @@
+-- `fill_mirrored_keys` meets its contract: the run of mirrored keys grows by one column a turn.
 use Prim.Native.Nat.{ℕ, _+_, _-_, _≤_}
 use native.Mathlib.Omega.{arith}
 use lib.IntN.{ℤ}
@@ -8,9 +9,6 @@ use Rattle.kernel.proofs.RunLaws.{between-none, between-more, between-e
 use Rattle.kernel.proofs.KeyLaws.{level-read}
 use Rattle.kernel.proofs.keys.fill_mirrored_keys.Statement.{statement}
 use Rattle.kernel.proofs.keys.fill_mirrored_keys.Tie as tie
-use Rattle.kernel.proofs.keys.fill_mirrored_keys.Reads as reads
-use Rattle.kernel.proofs.keys.fill_mirrored_keys.Lts as lts
-use Rattle.kernel.proofs.keys.mirrored_key_of.Reads as mirrored-key-of-reads
 
 abbrev Inv-loop : tie.InvT-loop
 Inv-loop row₀ plate start from to c₀ row c =
@@ -19,44 +17,34 @@ Inv-loop row₀ plate start from to c₀ row c =
 abbrev μ-loop : tie.MeasureT-loop
 μ-loop row₀ plate start from to c₀ row c = to - c
 
--- src/keys.rt:40:5
 loop-holds : tie.Need-loop-holds Inv-loop μ-loop
 loop-holds c = (omega arith, omega arith, between-none _ _ _ _ (omega arith))
 
--- src/keys.rt:41:40
 add-mirrored-key-of : tie.Need-add-mirrored-key-of Inv-loop μ-loop
 add-mirrored-key-of c = omega arith
 
--- src/keys.rt:41:34
 mul-mirrored-key-of : tie.Need-mul-mirrored-key-of Inv-loop μ-loop
 mul-mirrored-key-of c = omega arith
 
--- src/keys.rt:41:34
 shared-slice-copy-out-mirrored-key-of :
     tie.Need-shared-slice-copy-out-mirrored-key-of Inv-loop μ-loop
 shared-slice-copy-out-mirrored-key-of c = omega arith
 
--- src/keys.rt:41:18
 mirrored-key-of-requires : tie.Need-mirrored-key-of-requires Inv-loop μ-loop
 mirrored-key-of-requires c κs = tt
 
--- src/keys.rt:41:9
 mul-row : tie.Need-mul-row Inv-loop μ-loop
 mul-row c = omega arith
 
--- src/keys.rt:41:9
 slice-write-row : tie.Need-slice-write-row Inv-loop μ-loop
 slice-write-row c = omega arith
 
--- src/keys.rt:42:9
 add-c : tie.Need-add-c Inv-loop μ-loop
 add-c c = omega arith
 
--- src/keys.rt:40:5
 loop-less : tie.Need-loop-less Inv-loop μ-loop
 loop-less c = omega arith
 
--- src/keys.rt:40:5
 loop-again : tie.Need-loop-again Inv-loop μ-loop
 loop-again c =
     let a = c .before .before .before .before .before .args in
@@ -66,11 +54,9 @@ loop-again c =
       between-more _ _ _ _ _ _ _ (l .inv .2) (omega arith) (omega arith) (level-read (λ (v : ℤ). 65535 - key v) (a .plate .now) (a .start + l .c) _ (c .before .mirrored-key-of-arg .given) (omega arith) (c .mirrored-key-of .ensures)) (omega arith),
     )
 
--- src/keys.rt:35:1
 same-length : tie.Need-same-length Inv-loop μ-loop
 same-length c = omega arith
 
--- src/keys.rt:35:1
 returns : tie.Need-returns Inv-loop μ-loop
 returns c = between-ends _ _ _ _ _ _ (c .before .loop .inv .2) (omega arith)
 

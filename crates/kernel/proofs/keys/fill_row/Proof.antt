@@ -1,34 +1,25 @@
+-- `fill_row` meets its contract, mode by mode.
 use borrow.Author.Needs.{needs}
 use Rattle.kernel.proofs.RunLaws.{between-by}
 use Rattle.kernel.proofs.KeyLaws.{key-plain, key-mirrored}
 use Rattle.kernel.proofs.keys.fill_row.Statement.{statement}
 use Rattle.kernel.proofs.keys.fill_row.Tie as tie
-use Rattle.kernel.proofs.keys.fill_row.Reads as reads
-use Rattle.kernel.proofs.keys.fill_row.Lts as lts
-use Rattle.kernel.proofs.keys.fill_keys.Reads as fill-keys-reads
-use Rattle.kernel.proofs.keys.fill_mirrored_keys.Reads as fill-mirrored-keys-reads
 
--- src/keys.rt:59:9
 fill-keys-requires : tie.Need-fill-keys-requires
 fill-keys-requires c κs = search needs
 
--- src/keys.rt:61:9
 fill-mirrored-keys-requires : tie.Need-fill-mirrored-keys-requires
 fill-mirrored-keys-requires c κs = search needs
 
--- src/keys.rt:47:1
 same-length : tie.Need-same-length
 same-length c = search needs
 
--- src/keys.rt:47:1
 returns : tie.Need-returns
 returns c = between-by _ _ _ _ _ _ (c .before .before .fill-keys .ensures) (λ k. key-plain _ _ (c .before .before .before .before .if1 .taken))
 
--- src/keys.rt:47:1
 same-length-2 : tie.Need-same-length-2
 same-length-2 c = search needs
 
--- src/keys.rt:47:1
 returns-2 : tie.Need-returns-2
 returns-2 c = between-by _ _ _ _ _ _ (c .before .before .fill-mirrored-keys .ensures) (λ k. key-mirrored _ _ (c .before .before .before .before .if1 .left))
 

@@ -1,8 +1,8 @@
-use Prim.Native.Nat.{ℕ, _+_, _-_, _*_, _≤_}
+-- `hold_row` meets its contract: block by block, j planes held fill the slot of the blocks 1 to j. The places advance by a block and by a plane.
+use Prim.Native.Nat.{_+_, _-_, _*_, _≤_}
 use mathlib.Core.Path.{_≡_}
 use native.Mathlib.Nat.{add-mul}
 use native.Mathlib.Omega.{arith}
-use lib.ListN.{getD}
 use Rattle.kernel.specs.Runs.{blockSize}
 use Rattle.kernel.specs.Rows.{Slotted, rowOf}
 use Rattle.basics.proofs.Numbers.{rows-fit}
@@ -10,9 +10,6 @@ use Rattle.kernel.proofs.RunLaws.{striped-none, striped-ends}
 use Rattle.kernel.proofs.PlaneLaws.{held-more}
 use Rattle.kernel.proofs.rows.hold_row.Statement.{statement}
 use Rattle.kernel.proofs.rows.hold_row.Tie as tie
-use Rattle.kernel.proofs.rows.hold_row.Reads as reads
-use Rattle.kernel.proofs.rows.hold_row.Lts as lts
-use Rattle.kernel.proofs.runs.copy_run.Reads as copy-run-reads
 
 abbrev Inv-loop : tie.InvT-loop
 Inv-loop held₀ set n planes start slot w j₀ at₀ from₀ held j at from =
@@ -24,45 +21,36 @@ Inv-loop held₀ set n planes start slot w j₀ at₀ from₀ held j at from =
 abbrev μ-loop : tie.MeasureT-loop
 μ-loop held₀ set n planes start slot w j₀ at₀ from₀ held j at from = planes - j
 
--- src/rows.rt:43:27
 add-at : tie.Need-add-at Inv-loop μ-loop
 add-at c = omega arith
 
--- src/rows.rt:43:18
 add-at-2 : tie.Need-add-at-2 Inv-loop μ-loop
 add-at-2 c = omega arith
 
--- src/rows.rt:45:5
 loop-holds : tie.Need-loop-holds Inv-loop μ-loop
 loop-holds c = (omega arith, omega arith, omega arith, striped-none _ _ _ _ _ _ _ (omega arith))
 
--- src/rows.rt:46:9
 copy-run-requires : tie.Need-copy-run-requires Inv-loop μ-loop
 copy-run-requires c κs =
     let s = c .before .before .before .before .before in
     let l = c .before .before .loop in
     omega (arith, s .pre, l .inv, rows-fit (l .j) 1 (s .args .planes) (s .args .n) (omega arith))
 
--- src/rows.rt:47:9
 add-j : tie.Need-add-j Inv-loop μ-loop
 add-j c = omega arith
 
--- src/rows.rt:48:9
 add-at-3 : tie.Need-add-at-3 Inv-loop μ-loop
 add-at-3 c = omega arith
 
--- src/rows.rt:49:9
 add-from : tie.Need-add-from Inv-loop μ-loop
 add-from c =
     let s = c .before .before .before .before .before .before .before .before in
     let l = c .before .before .before .before .before .loop in
     omega (arith, s .pre, s .good, l .inv, rows-fit (l .j) 1 (s .args .planes) (s .args .n) (omega arith))
 
--- src/rows.rt:45:5
 loop-less : tie.Need-loop-less Inv-loop μ-loop
 loop-less c = omega arith
 
--- src/rows.rt:45:5
 loop-again : tie.Need-loop-again Inv-loop μ-loop
 loop-again c =
     let s = c .before .before .before .before .before .before .before .before in
@@ -73,11 +61,9 @@ loop-again c =
       held-more _ _ _ _ _ _ _ (s .pre .0 .1) (l .inv .1) (s .args .set .now) _ _ _ (l .inv .2) (l .inv .3) (c .before .before .copy-run .ensures),
     )
 
--- src/rows.rt:29:1
 same-length : tie.Need-same-length Inv-loop μ-loop
 same-length c = omega arith
 
--- src/rows.rt:29:1
 returns : tie.Need-returns Inv-loop μ-loop
 returns c = striped-ends _ _ _ _ _ _ _ _ _ (c .before .loop .inv .3) (omega arith)
 

@@ -1,18 +1,13 @@
+-- `hold_zeros` meets its contract: block by block, as in `hold_row`.
 use Prim.Native.Nat.{ℕ, _+_, _-_, _*_, _≤_}
 use mathlib.Core.Path.{_≡_}
-use native.Mathlib.Nat.{add-mul}
 use native.Mathlib.Omega.{arith}
-use lib.ListN.{getD}
 use Rattle.kernel.specs.Runs.{blockSize}
-use Rattle.kernel.specs.Rows.{Slotted, rowOf}
-use Rattle.basics.proofs.Numbers.{rows-fit}
+use Rattle.kernel.specs.Rows.{Slotted}
 use Rattle.kernel.proofs.RunLaws.{striped-none, striped-ends}
 use Rattle.kernel.proofs.PlaneLaws.{cleared-more}
 use Rattle.kernel.proofs.rows.hold_zeros.Statement.{statement}
 use Rattle.kernel.proofs.rows.hold_zeros.Tie as tie
-use Rattle.kernel.proofs.rows.hold_zeros.Reads as reads
-use Rattle.kernel.proofs.rows.hold_zeros.Lts as lts
-use Rattle.kernel.proofs.runs.clear_run.Reads as clear-run-reads
 
 abbrev Inv-loop : tie.InvT-loop
 Inv-loop held₀ planes slot w j₀ at₀ held j at =
@@ -23,35 +18,27 @@ Inv-loop held₀ planes slot w j₀ at₀ held j at =
 abbrev μ-loop : tie.MeasureT-loop
 μ-loop held₀ planes slot w j₀ at₀ held j at = planes - j
 
--- src/rows.rt:59:27
 add-at : tie.Need-add-at Inv-loop μ-loop
 add-at c = omega arith
 
--- src/rows.rt:59:18
 add-at-2 : tie.Need-add-at-2 Inv-loop μ-loop
 add-at-2 c = omega arith
 
--- src/rows.rt:60:5
 loop-holds : tie.Need-loop-holds Inv-loop μ-loop
 loop-holds c = (omega arith, omega arith, striped-none _ _ _ _ _ _ _ (omega arith))
 
--- src/rows.rt:61:9
 clear-run-requires : tie.Need-clear-run-requires Inv-loop μ-loop
 clear-run-requires c κs = omega arith
 
--- src/rows.rt:62:9
 add-j : tie.Need-add-j Inv-loop μ-loop
 add-j c = omega arith
 
--- src/rows.rt:63:9
 add-at-3 : tie.Need-add-at-3 Inv-loop μ-loop
 add-at-3 c = omega arith
 
--- src/rows.rt:60:5
 loop-less : tie.Need-loop-less Inv-loop μ-loop
 loop-less c = omega arith
 
--- src/rows.rt:60:5
 loop-again : tie.Need-loop-again Inv-loop μ-loop
 loop-again c =
     let s = c .before .before .before .before .before .before .before in
@@ -61,11 +48,9 @@ loop-again c =
       cleared-more _ _ _ _ _ _ _ (s .pre .1) (l .inv .1) (l .inv .2) (c .before .before .clear-run .ensures),
     )
 
--- src/rows.rt:54:1
 same-length : tie.Need-same-length Inv-loop μ-loop
 same-length c = omega arith
 
--- src/rows.rt:54:1
 returns : tie.Need-returns Inv-loop μ-loop
 returns c = striped-ends _ _ _ _ _ _ _ _ _ (c .before .loop .inv .2) (omega arith)
 

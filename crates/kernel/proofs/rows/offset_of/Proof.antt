@@ -1,31 +1,24 @@
+-- `offset_of` meets its contract, row by row.
 use borrow.Author.Needs.{needs}
 use Rattle.kernel.proofs.RowLaws.{slot-above, slot-here, slot-below}
 use Rattle.kernel.proofs.rows.offset_of.Statement.{statement}
 use Rattle.kernel.proofs.rows.offset_of.Tie as tie
-use Rattle.kernel.proofs.rows.offset_of.Reads as reads
-use Rattle.kernel.proofs.rows.offset_of.Lts as lts
 
--- src/rows.rt:126:16
 add-result : tie.Need-add-result
 add-result c = search needs
 
--- src/rows.rt:126:9
 returns : tie.Need-returns
 returns c = slot-above _ _ _ (c .before .if1 .taken)
 
--- src/rows.rt:129:16
 add-result-2 : tie.Need-add-result-2
 add-result-2 c = search needs
 
--- src/rows.rt:129:9
 returns-2 : tie.Need-returns-2
 returns-2 c = slot-here _ _ _ (c .before .if2 .taken)
 
--- src/rows.rt:131:5
 add-result-3 : tie.Need-add-result-3
 add-result-3 c = search needs
 
--- src/rows.rt:121:1
 returns-3 : tie.Need-returns-3
 returns-3 c = slot-below _ _ _ (c .before .before .if1 .left) (c .before .if2 .left)
 

@@ -1,3 +1,5 @@
+-- `renew_row` meets its contract. The slots and the band lie within the sizes, so that each call may be made; what the calls say together is
+-- `row-renewed`.
 use Prim.Native.Nat.{_+_}
 use borrow.Author.Needs.{needs}
 use native.Mathlib.Omega.{arith}
@@ -6,46 +8,34 @@ use Rattle.kernel.proofs.HeldLaws.{slots-apart}
 use Rattle.kernel.proofs.RowLaws.{slot-fits, row-renewed}
 use Rattle.kernel.proofs.rows.renew_row.Statement.{statement}
 use Rattle.kernel.proofs.rows.renew_row.Tie as tie
-use Rattle.kernel.proofs.rows.renew_row.Reads as reads
-use Rattle.kernel.proofs.rows.renew_row.Lts as lts
-use Rattle.kernel.proofs.band.run_in.Reads as run-in-reads
-use Rattle.kernel.proofs.keys.fill_row.Reads as fill-row-reads
-use Rattle.kernel.proofs.rows.offset_of.Reads as offset-of-reads
-use Rattle.kernel.proofs.rows.renew_planes.Reads as renew-planes-reads
 
--- src/rows.rt:160:9
 run-in-requires : tie.Need-run-in-requires
 run-in-requires c κs = search needs
 
--- src/rows.rt:161:5
 fill-row-requires : tie.Need-fill-row-requires
 fill-row-requires c κs =
     let s = c .before .before .before .before .before in
     let v = c .before .run-in .ensures in
     omega (arith, s .pre .0 .pixels, s .pre .1, v .ordered, v .on, rows-fit (s .args .r) 1 (s .args .h) (s .args .w) (omega (arith, s .pre .1 .1 .0)))
 
--- src/rows.rt:162:9
 offset-of-requires : tie.Need-offset-of-requires
 offset-of-requires c κs =
     let s = c .before .before .before .before .before .before .before .before in
     let p = slots-apart (s .pre .1 .1 .1 .0) (omega (arith, s .pre .0 .narrow)) in
     omega (arith, p .above-fits, p .here-fits, p .below-fits, s .pre .1 .1 .1 .1 .x0≤)
 
--- src/rows.rt:163:9
 offset-of-requires-2 : tie.Need-offset-of-requires-2
 offset-of-requires-2 c κs =
     let s = c .before .before .before .before .before .before .before .before .before in
     let p = slots-apart (s .pre .1 .1 .1 .0) (omega (arith, s .pre .0 .narrow)) in
     omega (arith, p .above-fits, p .here-fits, p .below-fits, s .pre .1 .1 .1 .1 .x1≤)
 
--- src/rows.rt:164:9
 offset-of-requires-3 : tie.Need-offset-of-requires-3
 offset-of-requires-3 c κs =
     let s = c .before .before .before .before .before .before .before .before .before .before in
     let p = slots-apart (s .pre .1 .1 .1 .0) (omega (arith, s .pre .0 .narrow)) in
     omega (arith, p .above-fits, p .here-fits, p .below-fits, s .pre .1 .1 .1 .1 .x2≤)
 
--- src/rows.rt:165:5
 renew-planes-requires : tie.Need-renew-planes-requires
 renew-planes-requires c κs =
     let s = c .before .before .before .before .before .before .before .before .before .before .before .before .before in
@@ -70,15 +60,12 @@ renew-planes-requires c κs =
       rows-fit (s .args .r) 1 (s .args .h) (s .args .w) (omega (arith, s .pre .1 .1 .0)),
     )
 
--- src/rows.rt:135:1
 same-length : tie.Need-same-length
 same-length c = search needs
 
--- src/rows.rt:135:1
 same-length-2 : tie.Need-same-length-2
 same-length-2 c = search needs
 
--- src/rows.rt:135:1
 returns : tie.Need-returns
 returns c =
     let s = c .before .before .before .before .before .before .before .before .before .before .before .before .before .before .before .before in

@@ -1,3 +1,4 @@
+-- `blend_run` meets its contract: the blended run grows by one column a turn.
 use Prim.Native.Nat.{ℕ, _+_, _-_, _≤_}
 use mathlib.Core.Path.{_≡_, refl, ap, _∙_}
 use native.Mathlib.Omega.{arith}
@@ -5,11 +6,6 @@ use Rattle.kernel.specs.Runs.{Between, blendAt}
 use Rattle.kernel.proofs.RunLaws.{between-none, between-more, between-ends, blend-of}
 use Rattle.kernel.proofs.runs.blend_run.Statement.{statement}
 use Rattle.kernel.proofs.runs.blend_run.Tie as tie
-use Rattle.kernel.proofs.runs.blend_run.Reads as reads
-use Rattle.kernel.proofs.runs.blend_run.Lts as lts
-use Rattle.kernel.proofs.runs.greatest_of.Reads as greatest-of-reads
-use Rattle.kernel.proofs.runs.max2.Reads as max2-reads
-use Rattle.kernel.proofs.runs.min2.Reads as min2-reads
 
 abbrev Inv-loop : tie.InvT-loop
 Inv-loop set₀ at key held low o0 o1 o2 from to own c₀ set c =
@@ -18,59 +14,45 @@ Inv-loop set₀ at key held low o0 o1 o2 from to own c₀ set c =
 abbrev μ-loop : tie.MeasureT-loop
 μ-loop set₀ at key held low o0 o1 o2 from to own c₀ set c = to - c
 
--- src/runs.rt:78:15
 add-own : tie.Need-add-own Inv-loop μ-loop
 add-own c = omega arith
 
--- src/runs.rt:80:5
 loop-holds : tie.Need-loop-holds Inv-loop μ-loop
 loop-holds c = (omega arith, omega arith, between-none _ _ _ _ (omega arith))
 
--- src/runs.rt:82:18
 mul-min2 : tie.Need-mul-min2 Inv-loop μ-loop
 mul-min2 c = omega arith
 
--- src/runs.rt:82:18
 shared-slice-read-min2 : tie.Need-shared-slice-read-min2 Inv-loop μ-loop
 shared-slice-read-min2 c = omega arith
 
--- src/runs.rt:82:26
 greatest-of-requires : tie.Need-greatest-of-requires Inv-loop μ-loop
 greatest-of-requires c κs = omega arith
 
--- src/runs.rt:82:13
 min2-requires : tie.Need-min2-requires Inv-loop μ-loop
 min2-requires c κs = omega arith
 
--- src/runs.rt:83:13
 greatest-of-requires-2 : tie.Need-greatest-of-requires-2 Inv-loop μ-loop
 greatest-of-requires-2 c κs = omega arith
 
--- src/runs.rt:81:23
 max2-requires : tie.Need-max2-requires Inv-loop μ-loop
 max2-requires c κs = omega arith
 
--- src/runs.rt:81:13
 add-set : tie.Need-add-set Inv-loop μ-loop
 add-set c = omega arith
 
--- src/runs.rt:81:9
 mul-set : tie.Need-mul-set Inv-loop μ-loop
 mul-set c = omega arith
 
--- src/runs.rt:81:9
 slice-write-set : tie.Need-slice-write-set Inv-loop μ-loop
 slice-write-set c = omega arith
 
--- src/runs.rt:85:9
 add-c : tie.Need-add-c Inv-loop μ-loop
 add-c c = omega arith
 
--- src/runs.rt:80:5
 loop-less : tie.Need-loop-less Inv-loop μ-loop
 loop-less c = omega arith
 
--- src/runs.rt:80:5
 loop-again : tie.Need-loop-again Inv-loop μ-loop
 loop-again c =
     let a = c .before .before .before .before .before .before .before .before .before .before .args in
@@ -83,11 +65,9 @@ loop-again c =
           (omega arith),
     )
 
--- src/runs.rt:61:1
 same-length : tie.Need-same-length Inv-loop μ-loop
 same-length c = omega arith
 
--- src/runs.rt:61:1
 returns : tie.Need-returns Inv-loop μ-loop
 returns c = between-ends _ _ _ _ _ _ (c .before .loop .inv .2) (omega arith)
 
