@@ -1,7 +1,7 @@
 // One step of a plane set, in place: the loop in which the engine spends its time.
 //
 // A plane set holds, for j = 0..=gaps, a plane of w * h numbers. A step takes each plane one pixel
-// further along a direction (design: the published decomposition, on grey levels):
+// further along a direction (formula (4) of source 001, taken on grey levels):
 //
 //     new_j(p) = max( min( key(p), M_j(p) ), M_{j-1}(p) )      M_{-1} = 0
 //     M_j(p)   = the greatest old_j(q) over the three steps p -> q that stay on the plate, else 0

@@ -102,13 +102,19 @@ renew-row-requires c κs =
     let l = c .before .before .before .before .before .before .before .before .loop in
     let sized : Sized (s .args .w) (s .args .h) (s .args .h * s .args .w) (s .args .gaps + 1) (length (l .set)) =
     record { wide = s .pre .0 .0; narrow = s .pre .0 .1; pixels = refl; few = omega (arith, s .pre .0); whole = l .inv .2 ∙ s .pre .1 .1 } in
-    (sized, ((omega (arith, s .pre, l .inv .4), s .pre .1 .0, omega (arith, s .pre, l .inv .3, c .before .before .before .before .hold2 .kept .0)), ((s .pre .0 .5, c .before .before .before .before .before .before .before .loop-test .taken, l .inv .1, s .pre .0 .6), (l .inv .5 .turned, c .before .before .before .before .before .before .before .before .before .before .before .before .before .reach-of .ensures .near))))
+    let rows = c .before .before .before .before .hold2 .kept .0 in
+    let on = c .before .before .before .before .before .before .before .loop-test .taken in
+    let near = c .before .before .before .before .before .before .before .before .before .before .before .before .before .reach-of .ensures .near in
+    (sized, ((omega (arith, s .pre, l .inv .4), s .pre .1 .0, omega (arith, s .pre, l .inv .3, rows)), ((s .pre .0 .5, on, l .inv .1, s .pre .0 .6), (l .inv .5 .turned, near))))
 
 turned-requires : tie.Need-turned-requires Inv-loop μ-loop
 turned-requires c κs = tt
 
 add-r : tie.Need-add-r Inv-loop μ-loop
-add-r c = omega (arith, c .before .before .before .before .before .before .before .before .before .before .before .before .before .before .before .before .before .before .before .before .pre .0, c .before .before .before .before .before .before .before .before .before .before .before .before .loop-test .taken)
+add-r c =
+    let s = c .before .before .before .before .before .before .before .before .before .before .before .before .before .before .before .before .before .before .before .before in
+    let on = c .before .before .before .before .before .before .before .before .before .before .before .before .loop-test .taken in
+    omega (arith, s .pre .0, on)
 
 loop-less : tie.Need-loop-less Inv-loop μ-loop
 loop-less c = omega arith
