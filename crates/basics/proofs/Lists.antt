@@ -8,7 +8,7 @@ use mathlib.Core.Logic.{⊎-elim}
 use native.Mathlib.Numerals.{add-one}
 use native.Mathlib.Omega.{arith}
 use lib.Dec.{T}
-use lib.ListN.{length, getD, take, drop, set, drop-of-length-le}
+use lib.ListN.{length, getD, take, drop, set, replicate, drop-of-length-le}
 use lib.Seq.{drop-cons, take-suc, set-at, append-snoc, length-take-le, take-all}
 use Rattle.basics.specs.Lists.{any, keep, firstOf, upFrom}
 use Rattle.basics.proofs.Numbers.{le-or-lt}
@@ -191,3 +191,17 @@ pub one-of-three : {A : Type 0} (P : A → Type 0) {a b c x : A} → P a → P b
 one-of-three P u v w (List·Memᴰ·head e) = rw e u
 one-of-three P u v w (List·Memᴰ·tail (List·Memᴰ·head e)) = rw e v
 one-of-three P u v w (List·Memᴰ·tail (List·Memᴰ·tail (List·Memᴰ·head e))) = rw e w
+
+-- ---- an element by its index
+
+-- in the list it does not matter what is said to stand past its end
+pub any-default : {A : Type 0} (xs : List A) (i : ℕ) (d e : A) → i < length xs → getD xs i d ≡ getD xs i e
+any-default [] i d e h = absurd (omega arith)
+any-default (x ∷ xs) zero d e h = refl
+any-default (x ∷ xs) (suc i) d e h = any-default xs i d e (omega arith)
+
+-- copies of d, and d past them, are d everywhere
+pub replicate-default : {A : Type 0} (n k : ℕ) (d : A) → getD (replicate n d) k d ≡ d
+replicate-default zero k d = refl
+replicate-default (suc n) zero d = refl
+replicate-default (suc n) (suc k) d = replicate-default n k d

@@ -2,8 +2,12 @@
 -- equality of two numbers or two tests from both directions.
 use Prim.Native.Nat.{ℕ, zero, suc, _≤_, _<_, max}
 use mathlib.Core.Path.{_≡_, refl, sym}
+-- General laws of natural numbers.
+use Prim.Native.Nat.{ℕ, zero, suc, _+_, _-_, _*_, _≤_, _<_, max}
+use mathlib.Core.Path.{_≡_, refl, sym, subst}
 use mathlib.Core.Logic.{_⊎_, inl, inr, ⊎-elim, by-cases}
 use native.Mathlib.Decide.{decLe}
+use native.Mathlib.Nat.{add-mul, mul-le-mul-right}
 use native.Mathlib.Omega.{arith, max-cases}
 use lib.Dec.{ltb}
 use borrow.Author.Tests.{lt-ltb, le-ltb}
@@ -41,3 +45,7 @@ below-three P a b c (suc (suc (suc n))) h = absurd (omega arith)
 pub below-four : (P : ℕ → Type 0) → P 0 → P 1 → P 2 → P 3 → (n : ℕ) → n < 4 → P n
 below-four P a b c d zero h = a
 below-four P a b c d (suc n) h = below-three (λ (m : ℕ). P (suc m)) b c d n (omega arith)
+
+-- k rows of w numbers after the first r rows end within h rows
+pub rows-fit : (r k h w : ℕ) → r + k ≤ h → r * w + k * w ≤ h * w
+rows-fit r k h w p = subst (λ (n : ℕ). n ≤ h * w) (add-mul r k w) (mul-le-mul-right w p)

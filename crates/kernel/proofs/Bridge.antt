@@ -1,0 +1,140 @@
+-- A step of a plane set, in the terms of the definitions of paths: the three cells that the kernel compares are the numbers at the places that the
+-- direction's steps reach from the pixel, so that their greatest is the best of the next places, or backwards of the places before.
+use Prim.Native.Nat.{ℕ, zero, suc, _+_, _*_, _/_, _%_, _^_, _≤_, _<_, min, max}
+use mathlib.Core.Path.{_≡_, refl, sym, ap, _∙_, subst}
+use mathlib.Core.Bool.{Bool, true, false}
+use mathlib.Core.List.{List, [], _∷_, map}
+use native.Mathlib.Nat.{div-add-mod', mod-lt, div-lt-iff-lt-mul, mul-comm}
+use native.Mathlib.Omega.{arith}
+use lib.ListN.{getD}
+use lib.IntN.{ℤ}
+use Rattle.basics.proofs.Numbers.{below-three, below-four}
+use Rattle.plate.specs.Directions.{Step, table, stepAt, stepsIn, steps}
+use Rattle.plate.specs.Paths.{Reached, Reached.at, Reached.leaves, stepFrom, arrivals, reachedBy, next}
+use Rattle.plate.specs.Opening.{levelAt}
+use Rattle.theory.proofs.Reversal.{minus, back}
+use Rattle.theory.proofs.Maxima.{best}
+use Rattle.theory.proofs.LevelSets.{fewer}
+use Rattle.theory.proofs.Sides.{around}
+use Rattle.kernel.specs.Sets.{keyBy, across, down, layer, ahead, renewed, InBand, Advanced}
+use Rattle.kernel.proofs.Landing.{toward, Small, Small.one-less, Small.no-change, Small.one-more, landing, step-cell}
+
+-- the numbers of plane j, by their place
+abbrev pub planeAt : List ℕ → ℕ → ℕ → ℕ → ℕ
+planeAt set n j q = getD set (j * n + q) 0
+
+-- ---- the steps of the table
+
+record SmallStep (s : Step) : Type 0 where
+  column : Small (s .column)
+  row : Small (s .row)
+
+small : {s : Step} → Small (s .column) → Small (s .row) → SmallStep s
+small c r = record { column = c; row = r }
+
+small-steps : (index number : ℕ) → index < 4 → number < 3 → SmallStep (stepAt index number)
+unfolding stepAt table
+small-steps index number h k =
+    below-four (λ (i : ℕ). SmallStep (stepAt i number))
+    (below-three (λ (n : ℕ). SmallStep (stepAt 0 n)) (small one-less one-less) (small no-change one-less) (small one-more one-less) number k)
+    (below-three (λ (n : ℕ). SmallStep (stepAt 1 n)) (small one-more one-less) (small one-more no-change) (small one-more one-more) number k)
+    (below-three (λ (n : ℕ). SmallStep (stepAt 2 n)) (small one-more no-change) (small one-more one-less) (small no-change one-less) number k)
+    (below-three (λ (n : ℕ). SmallStep (stepAt 3 n)) (small one-more no-change) (small one-more one-more) (small no-change one-more) number k)
+    index h
+
+-- the direction at an index of the table has the bit 2 ^ index
+pub steps-at : (index : ℕ) → index < 4 → steps (2 ^ index) ≡ stepAt index 0 ∷ stepAt index 1 ∷ stepAt index 2 ∷ []
+unfolding steps stepsIn stepAt table
+steps-at index h = below-four (λ (i : ℕ). steps (2 ^ i) ≡ stepAt i 0 ∷ stepAt i 1 ∷ stepAt i 2 ∷ []) refl refl refl refl index h
+
+-- ---- the best of three places
+
+best-first : (g : ℕ → ℕ) (r : Reached) (rs : List Reached) → best g (arrivals (r ∷ rs)) ≡ max (landing g r) (best g (arrivals rs))
+unfolding best arrivals landing
+best-first g (at q) rs = refl
+best-first g leaves rs = omega arith
+
+best-none : (g : ℕ → ℕ) → best g (arrivals []) ≡ 0
+unfolding best arrivals
+best-none g = refl
+
+best-three :
+    (g : ℕ → ℕ) (W H p : ℕ) (s₀ s₁ s₂ : Step) →
+    best g (reachedBy W H (s₀ ∷ s₁ ∷ s₂ ∷ []) p)
+    ≡ max (max (landing g (stepFrom W H p s₀)) (landing g (stepFrom W H p s₁))) (landing g (stepFrom W H p s₂))
+unfolding reachedBy
+best-three g W H p s₀ s₁ s₂ =
+    let a = best-first g (stepFrom W H p s₀) (stepFrom W H p s₁ ∷ stepFrom W H p s₂ ∷ []) in
+    let b = best-first g (stepFrom W H p s₁) (stepFrom W H p s₂ ∷ []) in
+    let c = best-first g (stepFrom W H p s₂) [] in
+    let d = best-none g in
+    omega arith
+
+around-steps :
+    (backwards : Bool) (W H index p : ℕ) → index < 4 →
+    around backwards W H (2 ^ index) p ≡ reachedBy W H (toward backwards (stepAt index 0) ∷ toward backwards (stepAt index 1) ∷ toward backwards (stepAt index 2) ∷ []) p
+unfolding around back next toward
+around-steps true W H index p h = ap (λ (ss : List Step). reachedBy W H (map minus ss) p) (steps-at index h)
+around-steps false W H index p h = ap (λ (ss : List Step). reachedBy W H ss p) (steps-at index h)
+
+-- ---- the kernel's step
+
+module _ (a : List ℕ) (w h index : ℕ) (backwards : Bool) (p : ℕ) (known : index < 4) (on : p < w * h) where
+  pub ahead-none : ahead a w h index backwards zero (p / w) (p % w) ≡ 0
+  unfolding ahead layer
+  ahead-none = refl
+
+  pub ahead-best : (j : ℕ) → ahead a w h index backwards (suc j) (p / w) (p % w) ≡ best (planeAt a (h * w) j) (around backwards w h (2 ^ index) p)
+  unfolding ahead layer across down
+  ahead-best j =
+      let g = planeAt a (h * w) j in
+      let s₀ = small-steps index 0 known (omega arith) in
+      let s₁ = small-steps index 1 known (omega arith) in
+      let s₂ = small-steps index 2 known (omega arith) in
+      sym
+      (ap (best g) (around-steps backwards w h index p known)
+      ∙ best-three g w h p (toward backwards (stepAt index 0)) (toward backwards (stepAt index 1)) (toward backwards (stepAt index 2))
+      ∙ rw (
+        step-cell a (j * (h * w)) w h backwards (stepAt index 0) p (s₀ .column) (s₀ .row) on,
+        step-cell a (j * (h * w)) w h backwards (stepAt index 1) p (s₁ .column) (s₁ .row) on,
+        step-cell a (j * (h * w)) w h backwards (stepAt index 2) p (s₂ .column) (s₂ .row) on,
+      ))
+
+  lower-best :
+      (j : ℕ) → ahead a w h index backwards j (p / w) (p % w) ≡ fewer (λ i. best (planeAt a (h * w) i) (around backwards w h (2 ^ index) p)) j
+  unfolding fewer
+  lower-best zero = ahead-none
+  lower-best (suc j) = ahead-best j
+
+module _ (old new : List ℕ) (plate : List ℤ) (mode w h gaps index : ℕ) (backwards : Bool) (lo hi : ℕ)
+    (wide : 1 ≤ w)
+    (known : index < 4)
+    (d : Advanced old new plate mode w h gaps index backwards lo hi)
+    (j p : ℕ)
+    (of-set : j ≤ gaps)
+    (on : p < w * h) where
+  row-on : p / w < h
+  row-on = div-lt-iff-lt-mul wide .1 (omega (arith, mul-comm w h))
+
+  -- a pixel in the band
+  pub advanced-inside :
+      InBand index h lo hi (p / w) (p % w) →
+      getD new (j * (h * w) + p) 0
+      ≡ max
+      (min (keyBy mode (levelAt plate p)) (best (planeAt old (h * w) j) (around backwards w h (2 ^ index) p)))
+      (fewer (λ i. best (planeAt old (h * w) i) (around backwards w h (2 ^ index) p)) j)
+  unfolding renewed
+  advanced-inside i =
+      subst
+      (λ (x : ℕ).
+      getD new (j * (h * w) + x) 0
+      ≡ max (min (keyBy mode (levelAt plate x)) (ahead old w h index backwards (suc j) (p / w) (p % w))) (ahead old w h index backwards j (p / w) (p % w)))
+      (div-add-mod' p w)
+      (d .inside j (p / w) (p % w) of-set row-on (mod-lt p wide) i)
+      ∙ rw (ahead-best old w h index backwards p known on j, lower-best old w h index backwards p known on j)
+
+  -- a pixel out of it
+  pub advanced-outside : (InBand index h lo hi (p / w) (p % w) → ⊥) → getD new (j * (h * w) + p) 0 ≡ getD old (j * (h * w) + p) 0
+  advanced-outside out =
+      subst (λ (x : ℕ). getD new (j * (h * w) + x) 0 ≡ getD old (j * (h * w) + x) 0) (div-add-mod' p w)
+      (d .outside j (p / w) (p % w) of-set row-on (mod-lt p wide) out)

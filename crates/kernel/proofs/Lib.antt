@@ -1,0 +1,11 @@
+pub mod RunLaws
+pub mod StepLaws
+pub mod KeyLaws
+pub mod BandLaws
+pub mod CellLaws
+pub mod PlaneLaws
+pub mod HeldLaws
+pub mod RowLaws
+pub mod Progress
+pub mod Landing
+pub mod Bridge
