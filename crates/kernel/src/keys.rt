@@ -8,12 +8,6 @@ ghost use Rattle.kernel.specs.Sets.{keyBy};
 
 // A level's key, its height above the lowest level; and the key of its mirror.
 
-fn key_of(v: i16) -> u16
-    ensures { λ r. ⌜ r ≡ key v ⌝ }
-{
-    (v as i32 + 32768) as u16
-}
-
 fn mirrored_key_of(v: i16) -> u16
     ensures { λ r. ⌜ r ≡ 65535 - key v ⌝ }
 {
@@ -27,7 +21,7 @@ fn fill_keys(row: &mut [u16], plate: &[i16], start: usize, from: usize, to: usiz
 {
     let mut c = from;
     while c < to {
-        row[c] = key_of(plate[start + c]);
+        row[c] = plate::key_of(plate[start + c]);
         c += 1;
     }
 }
