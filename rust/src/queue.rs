@@ -1,7 +1,7 @@
-//! The published fast method: path lengths kept for every pixel and updated by an ordered queue while
-//! the threshold rises (Talbot and Appleton's complete and incomplete path openings, as sources 000 and
-//! 003 describe them). A pixel that falls below the threshold becomes a gap; the lengths that change
-//! are followed along the direction, nearest lines first, so that each is computed once a threshold.
+//! The published fast method, Talbot and Appleton's complete and incomplete path openings (sources 000
+//! and 003 cite it): the lengths λ+ and λ− of the longest paths on either side of every pixel are kept
+//! while the threshold rises. A pixel that falls below it becomes a gap, and the lengths that change are
+//! followed by an ordered queue, line after line, so that none is computed twice at a threshold.
 //!
 //! Two prunings keep it fast. Lengths above L are all kept as L, so a change is followed no further
 //! than it matters. And a pixel through which no path of L is left is taken off the plate for good:

@@ -79,9 +79,10 @@ fn main() {
         (Some(a), Some(b)) => format!("{:.2}", a / b),
         _ => "–".to_string(),
     };
-    println!("Four directions, opening; – is not run.\n");
-    println!("| plate | L | k | filter | trace | queue | queue / filter | one scan a level | scans / filter |");
-    println!("|---|---|---|---|---|---|---|---|---|");
+    println!("Four directions, opening. Both other methods make a whole filtered plate.");
+    println!("– is not run: the engine is not built, or one scan a level would take minutes.\n");
+    println!("| plate | L | k | filter | trace | queue | queue / filter | queue / trace | one scan a level | scans / filter |");
+    println!("|---|---|---|---|---|---|---|---|---|---|");
     for (kind, width, height, length, gaps) in rows {
         let plate = plate(&mut Random(256), kind, width, height);
         let setting = Setting::new(length, gaps, 15, 0);
@@ -95,13 +96,15 @@ fn main() {
             assert!(filtered == expected, "one scan a level and the queue differ");
             scans
         });
-        let filter = engine.map(|(filter, _)| filter);
+        let (filter, trace) = (engine.map(|times| times.0), engine.map(|times| times.1));
+        let looks = if kind == Kind::Flat { "flat" } else { "noise and curves" };
         println!(
-            "| {width} × {height} {kind:?} | {length} | {gaps} | {} | {} | {} | {} | {} | {} |",
+            "| {width} × {height}, {looks} | {length} | {gaps} | {} | {} | {} | {} | {} | {} | {} |",
             seconds(filter),
-            seconds(engine.map(|(_, trace)| trace)),
+            seconds(trace),
             seconds(Some(queue)),
             ratio(Some(queue), filter),
+            ratio(Some(queue), trace),
             seconds(scans),
             ratio(scans, filter),
         );
