@@ -1,0 +1,250 @@
+/* diilvak.h -- exact path openings and closings of grey plates, and the path through a pixel.
+ *
+ * A crack on a photographed wall is long, thin and seldom straight. A path opening keeps, at every
+ * pixel, only the brightness that lies on some long path through it; a closing does the same for
+ * dark cracks. This library corrects a plate of readings, opens or closes it, and traces the path
+ * through a pixel of your choice. Its results are exact: the code is proved, for every input, to give
+ * what the comments below say.
+ *
+ *
+ * PLATES
+ *
+ * A plate has W columns and H rows of 16-bit signed levels, stored row by row from the top. The
+ * pixel in column c and row r, both counted from 0, has the place r * W + c. W and H are 1 to 1024,
+ * and W * H is at most 65536. Every 16-bit level is allowed.
+ *
+ *
+ * DIRECTIONS AND PATHS
+ *
+ * A direction has a bit and three steps, numbered 0, 1, 2, each a change of column and of row:
+ *
+ *     bit               step 0      step 1      step 2
+ *     1  north          (-1,-1)     ( 0,-1)     ( 1,-1)
+ *     2  east           ( 1,-1)     ( 1, 0)     ( 1, 1)
+ *     4  north-east     ( 1, 0)     ( 1,-1)     ( 0,-1)
+ *     8  south-east     ( 1, 0)     ( 1, 1)     ( 0, 1)
+ *
+ * A set of directions is the sum of their bits, 1 to 15. A path of length L is L pixels of the plate,
+ * each reached from the one before by a step of one and the same direction. It goes through each of
+ * its L pixels.
+ *
+ *
+ * SETTINGS
+ *
+ *     length       L, the pixels of a path, 1 to 1024
+ *     gaps         k, how many pixels of a path may be missing, 0 to 8 and less than L
+ *     directions   the set of directions, 1 to 15
+ *     mode         0 opening (light cracks), 1 closing (dark cracks)
+ *
+ * Opening: the new level of a pixel is the highest level t, not above its own, such that some path of
+ * length L through it, in one of the directions, has at most k pixels below t. Those k may be any
+ * pixels of the path, its ends too. Where no path of length L goes through the pixel at all, the new
+ * level is -32768.
+ *
+ * Closing: every level v is mirrored to -1 - v, the plate is opened, and mirrored back. So the new
+ * level is the lowest t, not below the pixel's own, such that some path has at most k pixels above t,
+ * and 32767 where there is no path.
+ *
+ *
+ * REFUSALS
+ *
+ * Every function answers every input. The result is 0 where the call is done, and otherwise the number
+ * of the first cause in this table that applies to the call:
+ *
+ *     1   width or height is 0 or above 1024, or width * height is above 65536
+ *     2   length is 0 or above 1024
+ *     3   gaps is above 8, or not less than length
+ *     4   directions is 0 or above 15
+ *     5   mode is above 1
+ *     6   an input buffer does not have exactly width * height numbers
+ *     7   the result does not have exactly width * height numbers, or the path not exactly length
+ *     8   the work buffer has less than 4 * (gaps + 1) * width * height numbers
+ *     9   a reading is above 4095
+ *     10  a correction is below -4096 or above 4095
+ *     11  the traced place is not below width * height
+ *     12  no path of that length, in one of the directions, goes through the pixel
+ *
+ * A refused call leaves every buffer and number that was lent to it as it was, but for the place that
+ * diilvak_correct reports. Sizes and settings are size_t: a negative number turns into a large one
+ * and is refused.
+ *
+ *
+ * WHAT THE CALLER OWES
+ *
+ * A buffer is a pointer and then its length, in numbers and not in bytes; a number to be written is a
+ * pointer alone. The pointer is not NULL, also where the length is 0, is aligned for its type, and
+ * the memory behind it holds as many numbers as the length says. What a call writes (every pointer
+ * without const) overlaps nothing else that is lent to the same call.
+ *
+ * The library allocates nothing, keeps nothing between calls, and touches no memory but what it is
+ * lent. Calls may run at the same time in several threads, as long as none writes what another is
+ * lent. Work, path and result buffers need not be cleared: what they held never changes an answer.
+ */
+#ifndef DIILVAK_H
+#define DIILVAK_H
+
+#include <stddef.h>
+#include <stdint.h>
+
+#ifdef __cplusplus
+extern "C" {
+#endif
+
+/* Limits. */
+#define DIILVAK_MAX_SIDE 1024
+#define DIILVAK_MAX_PIXELS 65536
+#define DIILVAK_MAX_LENGTH 1024
+#define DIILVAK_MAX_GAPS 8
+#define DIILVAK_MAX_READING 4095
+#define DIILVAK_MIN_CORRECTION (-4096)
+#define DIILVAK_MAX_CORRECTION 4095
+
+/* Bits of the directions. */
+#define DIILVAK_NORTH 1
+#define DIILVAK_EAST 2
+#define DIILVAK_NORTH_EAST 4
+#define DIILVAK_SOUTH_EAST 8
+
+/* Modes. */
+#define DIILVAK_OPENING 0
+#define DIILVAK_CLOSING 1
+
+/* Done, and the refusals of the table above. */
+#define DIILVAK_DONE 0
+#define DIILVAK_BAD_SIZE 1
+#define DIILVAK_BAD_LENGTH 2
+#define DIILVAK_BAD_GAPS 3
+#define DIILVAK_BAD_DIRECTIONS 4
+#define DIILVAK_BAD_MODE 5
+#define DIILVAK_BAD_INPUT 6
+#define DIILVAK_BAD_RESULT 7
+#define DIILVAK_BAD_WORK 8
+#define DIILVAK_BAD_READING 9
+#define DIILVAK_BAD_CORRECTION 10
+#define DIILVAK_BAD_PLACE 11
+#define DIILVAK_NO_PATH 12
+
+/* Judges a setting.
+ *
+ * Returns 0 where it is within the limits, and otherwise 2, 3, 4 or 5. Nothing is written. Every other
+ * function judges its setting itself: this one is for telling a user early.
+ */
+size_t diilvak_check_setting(size_t length, size_t gaps, size_t directions, size_t mode);
+
+/* How many numbers the work buffer of a filter or a trace needs: 4 * (gaps + 1) * width * height.
+ *
+ * Returns 0 where refusal 1 forbids the size or gaps is above 8. Nothing is written.
+ */
+size_t diilvak_work_length(size_t width, size_t height, size_t gaps);
+
+/* Corrects a plate of readings: result[p] = readings[p] + the correction of words[p].
+ *
+ * readings   width * height numbers, each 0 to 4095
+ * words      width * height corrections, each a 16-bit word in two's complement: the word 65534 is the
+ *            correction -2. Corrections are -4096 to 4095, so words are 0 to 4095 and 61440 to 65535
+ * result     room for width * height levels
+ * place      the place that a refusal reports
+ *
+ * Returns 0, with every level of result written, or
+ *     1    bad size
+ *     6    readings_len or words_len is not width * height
+ *     7    result_len is not width * height
+ *     9    a reading is above 4095; *place is the first such place
+ *     10   a correction is out of bounds; *place is the first such place
+ * in this order: all readings are judged before any correction. *place is written by every call, and is
+ * 0 where the result is not 9 or 10. A refused call leaves result as it was. readings and words are
+ * only read.
+ */
+size_t diilvak_correct(size_t width, size_t height,
+                       const uint16_t *readings, size_t readings_len,
+                       const uint16_t *words, size_t words_len,
+                       int16_t *result, size_t result_len,
+                       size_t *place);
+
+/* Opens (mode 0) or closes (mode 1) a plate, as under SETTINGS above.
+ *
+ * plate    width * height levels
+ * result   room for width * height levels
+ * work     room for at least diilvak_work_length(width, height, gaps) numbers
+ *
+ * Returns 0, with every level of result written, or
+ *     1    bad size
+ *     2    length is 0 or above 1024
+ *     3    gaps is above 8, or not less than length
+ *     4    directions is 0 or above 15
+ *     5    mode is above 1
+ *     6    plate_len is not width * height
+ *     7    result_len is not width * height
+ *     8    work_len is less than 4 * (gaps + 1) * width * height
+ * in this order. A refused call leaves result and work as they were; after a call that is done, what
+ * work holds is of no use. plate is only read.
+ *
+ * Where length is larger than any path of the directions (north: height; east: width; north-east and
+ * south-east: width + height - 1), the call is done and every level is -32768, or 32767 in mode 1.
+ */
+size_t diilvak_filter(size_t width, size_t height,
+                      const int16_t *plate, size_t plate_len,
+                      size_t length, size_t gaps, size_t directions, size_t mode,
+                      int16_t *result, size_t result_len,
+                      uint16_t *work, size_t work_len);
+
+/* Traces a path through the pixel at a place.
+ *
+ * plate       width * height levels
+ * at          the place of the pixel
+ * path        room for length places
+ * work        room for at least diilvak_work_length(width, height, gaps) numbers
+ * direction   the direction of the path
+ * level       the level of the pixel
+ *
+ * Returns 0, and then
+ *   - path holds the length places of a path through at, in walking order, every step of it a step of
+ *     the one direction whose bit is in *direction, which is one of directions;
+ *   - *level is the level that diilvak_filter, by the same setting, gives that pixel;
+ *   - in mode 0 at most gaps pixels of the path are below *level, in mode 1 at most gaps are above it.
+ * Of several such paths any may be shown. Tracing the filtered plate at the same place, by the same
+ * setting, is done too, and gives the same level.
+ *
+ * Or it returns
+ *     1    bad size
+ *     2    length is 0 or above 1024
+ *     3    gaps is above 8, or not less than length
+ *     4    directions is 0 or above 15
+ *     5    mode is above 1
+ *     6    plate_len is not width * height
+ *     7    path_len is not length
+ *     8    work_len is less than 4 * (gaps + 1) * width * height
+ *     11   at is not below width * height
+ *     12   no path of this length, in one of the directions, goes through the pixel
+ * in this order. A refused call leaves path, work, *direction and *level as they were; after a call
+ * that is done, what work holds is of no use. plate is only read.
+ *
+ * Refusal 12 does not depend on the pixel: it is given exactly where length is larger than any path of
+ * the directions (north: height; east: width; north-east and south-east: width + height - 1).
+ */
+size_t diilvak_trace(size_t width, size_t height,
+                     const int16_t *plate, size_t plate_len,
+                     size_t length, size_t gaps, size_t directions, size_t mode,
+                     size_t at,
+                     size_t *path, size_t path_len,
+                     uint16_t *work, size_t work_len,
+                     size_t *direction, int16_t *level);
+
+/* Takes one step from the pixel at a place.
+ *
+ * direction   the bit of a direction: 1, 2, 4 or 8
+ * number      the number of its step: 0, 1 or 2
+ * to          the place that the step leads to
+ *
+ * Returns 1, with *to written, where the step leads to a pixel of the plate. Returns 0, with *to as it
+ * was, where the step would leave the plate, and also where there is no such step: refusal 1 forbids
+ * the size, place is not below width * height, or the direction or the step number does not exist.
+ */
+size_t diilvak_step(size_t width, size_t height, size_t direction, size_t place, size_t number,
+                    size_t *to);
+
+#ifdef __cplusplus
+}
+#endif
+
+#endif

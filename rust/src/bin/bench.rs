@@ -1,0 +1,112 @@
+//! Filter and trace against the ordered queue and against one scan a level: the same plates, the same
+//! run, one thread. Times are processor time, so that other work on the machine counts little: the best
+//! of three calls, or one call where that takes over two seconds, with each method's own buffers (the
+//! engine's are cleared first). The results are compared.
+//!
+//! `cargo run --release --bin bench [all]`: one scan a level is run where it ends in some seconds, and
+//! with `all` on every plate, which takes some minutes.
+use diilvak::random::{plate, Kind, Random};
+use diilvak::{levels, queue, Plate, Setting};
+
+/// The processor time that this process has taken, in seconds.
+fn processor_time() -> f64 {
+    #[repr(C)]
+    struct Time {
+        seconds: i64,
+        nanoseconds: i64,
+    }
+    extern "C" {
+        fn clock_gettime(clock: i32, time: *mut Time) -> i32;
+    }
+    const CLOCK_PROCESS_CPUTIME_ID: i32 = 2;
+    let mut time = Time { seconds: 0, nanoseconds: 0 };
+    // SAFETY: on 64-bit Linux, where the engine's library links, a timespec is these two numbers.
+    let failed = unsafe { clock_gettime(CLOCK_PROCESS_CPUTIME_ID, &mut time) };
+    assert_eq!(failed, 0);
+    time.seconds as f64 + time.nanoseconds as f64 / 1e9
+}
+
+/// The best time of a call in seconds, and its answer.
+fn time<T>(mut call: impl FnMut() -> T) -> (f64, T) {
+    let mut best = f64::INFINITY;
+    for run in 0.. {
+        let start = processor_time();
+        let answer = call();
+        best = best.min(processor_time() - start);
+        if run == 2 || best > 2.0 {
+            return (best, answer);
+        }
+    }
+    unreachable!()
+}
+
+/// The engine's times for a filter and a trace in the plate's middle, and the filtered plate.
+#[cfg(engine)]
+fn engine(plate: &Plate, setting: Setting) -> Option<(f64, f64, Plate)> {
+    use diilvak::engine;
+    let at = plate.pixels() / 2 + plate.width() / 2;
+    let (filter, filtered) = time(|| engine::filter(plate, setting).expect("accepted"));
+    let (trace, shown) = time(|| engine::trace(plate, setting, at).expect("accepted"));
+    assert_eq!(shown.level, filtered.levels()[at]);
+    Some((filter, trace, filtered))
+}
+
+#[cfg(not(engine))]
+fn engine(_: &Plate, _: Setting) -> Option<(f64, f64, Plate)> {
+    None
+}
+
+/// How many pixels one scan a level visits: both ways, every direction, level and gap count.
+fn visits(plate: &Plate, setting: Setting) -> usize {
+    let mut thresholds = plate.levels().to_vec();
+    thresholds.sort_unstable();
+    thresholds.dedup();
+    2 * setting.chosen().count() * thresholds.len() * plate.pixels() * (setting.gaps + 1)
+}
+
+fn main() {
+    let all = std::env::args().any(|word| word == "all");
+    let rows = [
+        (Kind::Wall, 256, 256, 30, 0),
+        (Kind::Wall, 256, 256, 30, 2),
+        (Kind::Wall, 256, 256, 100, 2),
+        (Kind::Wall, 256, 256, 200, 8),
+        (Kind::Wall, 1024, 64, 1000, 2),
+        (Kind::Flat, 256, 256, 30, 2),
+    ];
+    let seconds = |t: Option<f64>| t.map_or("–".to_string(), |t| format!("{t:.3} s"));
+    let ratio = |a: Option<f64>, b: Option<f64>| match (a, b) {
+        (Some(a), Some(b)) => format!("{:.2}", a / b),
+        _ => "–".to_string(),
+    };
+    println!("Four directions, opening. Both other methods make a whole filtered plate.");
+    println!("– is not run: the engine is not built, or one scan a level would take minutes.\n");
+    println!("| plate | L | k | filter | trace | queue | queue / filter | queue / trace | one scan a level | scans / filter |");
+    println!("|---|---|---|---|---|---|---|---|---|---|");
+    for (kind, width, height, length, gaps) in rows {
+        let plate = plate(&mut Random(256), kind, width, height);
+        let setting = Setting::new(length, gaps, 15, 0);
+        let (queue, expected) = time(|| queue::filter(&plate, setting));
+        let engine = engine(&plate, setting).map(|(filter, trace, filtered)| {
+            assert!(filtered == expected, "the engine and the queue differ");
+            (filter, trace)
+        });
+        let scans = (all || visits(&plate, setting) < 3_000_000_000).then(|| {
+            let (scans, filtered) = time(|| levels::filter(&plate, setting));
+            assert!(filtered == expected, "one scan a level and the queue differ");
+            scans
+        });
+        let (filter, trace) = (engine.map(|times| times.0), engine.map(|times| times.1));
+        let looks = if kind == Kind::Flat { "flat" } else { "noise and curves" };
+        println!(
+            "| {width} × {height}, {looks} | {length} | {gaps} | {} | {} | {} | {} | {} | {} | {} |",
+            seconds(filter),
+            seconds(trace),
+            seconds(Some(queue)),
+            ratio(Some(queue), filter),
+            ratio(Some(queue), trace),
+            seconds(scans),
+            ratio(scans, filter),
+        );
+    }
+}
