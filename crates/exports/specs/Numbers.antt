@@ -1,0 +1,37 @@
+-- Answers as numbers, for C and Rust: the result is 0 where a call is accepted and the refusal's number else; the other values go to lent numbers.
+use Prim.Native.Nat.{ℕ, _+_, _*_}
+use mathlib.Core.Bool.{cond, _||_}
+use lib.Dec.{ltb}
+use Rattle.plate.specs.Limits.{maxGaps}
+use Rattle.plate.specs.Refusals.{Verdict, Verdict.accepted, Verdict.refused, badSize}
+use Rattle.plate.specs.declared.walker.Walker.{Walker}
+use Rattle.plate.specs.declared.walker.Moved.{Moved}
+use Rattle.plate.specs.declared.walker.Moved.the-variants.{To, Leaves}
+
+-- the result of a call
+abbrev pub numberOf : {A : Type 0} → Verdict A → ℕ
+numberOf (accepted a) = 0
+numberOf (refused number place) = number
+
+-- the place of a refusal; 0 where there is none
+abbrev pub placeOf : {A : Type 0} → Verdict A → ℕ
+placeOf (accepted a) = 0
+placeOf (refused number place) = place
+
+-- a lent buffer: the new contents, or what it held before a refusal
+abbrev pub lentAfter : {A X : Type 0} → Verdict A → X → X → X
+lentAfter (accepted a) new old = new
+lentAfter (refused number place) new old = old
+
+-- a walker's step: 1 where it leads to a place, which is then written, 0 where it leaves
+abbrev pub hasMoved : Moved → ℕ
+hasMoved (To w) = 1
+hasMoved Leaves = 0
+
+abbrev pub placeAfter : Moved → ℕ → ℕ
+placeAfter (To w) old = w .place
+placeAfter Leaves old = old
+
+-- the length of the work buffer for a size and a gap count: 4 × (k + 1) × W × H; 0 where refusal 1 or the gap limit forbids them
+unfoldable pub workLength : ℕ → ℕ → ℕ → ℕ
+workLength W H k = cond (badSize W H || ltb maxGaps k) 0 (4 * (k + 1) * (W * H))

@@ -1,0 +1,103 @@
+// The engine for C and Rust: numbers and slices only, each function thin over the proved one.
+//
+// include/diilvak.h has the declarations for C, with all that a caller has to know. The result of a
+// call is the refusal's number, 0 where it is done; the other values go to lent numbers.
+ghost use mathlib.Core.Path.{_≡_};
+ghost use lib.ListN.{length};
+ghost use Rattle.plate.specs.Levels.{correctedPlate};
+ghost use Rattle.plate.specs.Refusals.{settingVerdict, correctionVerdict};
+ghost use Rattle.plate.specs.Answers.{walked};
+ghost use Rattle.exports.specs.Numbers.{numberOf, placeOf, lentAfter, hasMoved, placeAfter, workLength};
+use plate::Answer;
+use plate::Made;
+use plate::Moved;
+use plate::Setting;
+use plate::Walker;
+
+// 0, or the refusal of the setting: 2 to 5.
+#[no_mangle]
+pub extern "C" fn diilvak_check_setting(
+    length: usize,
+    gaps: usize,
+    directions: usize,
+    mode: usize,
+) -> usize
+    ensures { λ r. ⌜ r ≡ numberOf (settingVerdict (record { length = length; gaps = gaps; directions = directions; mode = mode })) ⌝ }
+{
+    let made = Setting::new(length, gaps, directions, mode);
+    match made {
+        Made::Valid(_) => 0,
+        Made::Refused { number, place: _ } => number,
+    }
+}
+
+// Each reading plus its signed correction; `place` gets the refusal's place, 0 where there is none.
+#[no_mangle]
+pub extern "C" fn diilvak_correct(
+    width: usize,
+    height: usize,
+    readings: &[u16],
+    words: &[u16],
+    result: &mut [i16],
+    place: &mut usize,
+) -> usize
+    ensures { λ r. ⌜ r ≡ numberOf (correctionVerdict width height (now (readings .entry)) (now (words .entry)) (length (now (result .entry)))) ⌝ }
+    ensures { λ r. ⌜ now (result .exit) ≡ lentAfter (correctionVerdict width height (now (readings .entry)) (now (words .entry)) (length (now (result .entry)))) (correctedPlate (now (readings .entry)) (now (words .entry))) (now (result .entry)) ⌝ }
+    ensures { λ r. ⌜ now (place .exit) ≡ placeOf (correctionVerdict width height (now (readings .entry)) (now (words .entry)) (length (now (result .entry)))) ⌝ }
+{
+    let answer = plate::correct(width, height, readings, words, result);
+    match answer {
+        Answer::Done => {
+            *place = 0;
+            0
+        }
+        Answer::Refused { number, place: at } => {
+            *place = at;
+            number
+        }
+    }
+}
+
+// 1 and the place that the numbered step leads to, or 0 where it leaves.
+#[no_mangle]
+pub extern "C" fn diilvak_step(
+    width: usize,
+    height: usize,
+    direction: usize,
+    place: usize,
+    number: usize,
+    to: &mut usize,
+) -> usize
+    ensures { λ r. ⌜ r ≡ hasMoved (walked (record { width = width; height = height; direction = direction; place = place }) number) ⌝ }
+    ensures { λ r. ⌜ now (to .exit) ≡ placeAfter (walked (record { width = width; height = height; direction = direction; place = place }) number) (now (to .entry)) ⌝ }
+{
+    let walker = Walker {
+        width: width,
+        height: height,
+        direction: direction,
+        place: place,
+    };
+    let moved = walker.step(number);
+    match moved {
+        Moved::To(w) => {
+            *to = w.place;
+            1
+        }
+        Moved::Leaves => 0,
+    }
+}
+
+// How many numbers the work buffer of a filter or a trace has at least; 0 for a size or a gap count
+// that is refused.
+#[no_mangle]
+pub extern "C" fn diilvak_work_length(width: usize, height: usize, gaps: usize) -> usize
+    ensures { λ r. ⌜ r ≡ workLength width height gaps ⌝ }
+{
+    if plate::bad_size(width, height) {
+        return 0;
+    }
+    if gaps > Setting::MAX_GAPS {
+        return 0;
+    }
+    4 * (gaps + 1) * (width * height)
+}
