@@ -1,0 +1,78 @@
+-- Following a walk that counts, by the numbers of a plane set. At a pixel from which a walk of m + 1 steps leads, some neighbour has a walk of m steps
+-- with the gaps that are left (`neighbour`), its number in the set is what the recursion says, and so it fits; whatever fits goes on so.
+use Prim.Native.Nat.{ℕ, zero, suc, _+_, _-_, _*_, _^_, _≤_, _<_}
+use mathlib.Core.Path.{_≡_}
+use mathlib.Core.Bool.{Bool}
+use mathlib.Core.List.{List, List·Memᴰ}
+use mathlib.Core.Logic.{⊎-elim}
+use native.Mathlib.Omega.{arith}
+use Rattle.basics.proofs.Numbers.{le-or-lt}
+use Rattle.theory.proofs.LevelSets.{under, under-low, under-high, reach}
+use Rattle.theory.proofs.Maxima.{best}
+use Rattle.theory.proofs.Sides.{around, room, other, Side, side}
+use Rattle.theory.proofs.Following.{reach-high, reach-low, reach-last, neighbour}
+use Rattle.tracing.specs.Headings.{bitOf, Known}
+use Rattle.tracing.specs.Choosing.{Fitting, Chosen}
+use Rattle.tracing.specs.Following.{Leads}
+use Rattle.tracing.specs.declared.heading.Heading.{Heading}
+use Rattle.tracing.proofs.Rooms.{bit-listed}
+
+-- the gaps that are left after a pixel
+module _ (next : ℕ → List ℕ) (g : ℕ → ℕ) (bounded : (p : ℕ) → g p ≤ 65535) (t : ℕ) where
+  pub spent : (m j p : ℕ) → t ≤ reach next g (suc m) j p → (under t (g p) ≤ j) × (t ≤ best (reach next g m (j - under t (g p))) (next p))
+  spent m j p r =
+      ⊎-elim
+      (λ h. let e : j - under t (g p) ≡ j = omega (arith, under-high t (g p) h) in
+      (omega (arith, under-high t (g p) h), rw e (reach-high next g bounded t m j p h r)))
+      (λ h. let f = reach-low next g bounded t m j p h r in
+      let e : j - under t (g p) ≡ j - 1 = omega (arith, under-low t (g p) h) in
+      (omega (arith, under-low t (g p) h, f .0), rw e (f .1)))
+      (le-or-lt t (g p))
+
+  pub spent-last : (j p : ℕ) → t ≤ reach next g 0 j p → under t (g p) ≤ j
+  spent-last j p r =
+      ⊎-elim (λ h. omega (arith, under-high t (g p) h)) (λ h. omega (arith, under-low t (g p) h, reach-last next g bounded t j p h r)) (le-or-lt t (g p))
+
+-- a step takes room away
+pub room-falls : {W H bit : ℕ} {b : Bool} → Side W H bit b → (p q : ℕ) → List·Memᴰ q (around b W H bit p) → room W H bit b q < room W H bit b p
+room-falls {W} {H} {bit} {b} S p q i =
+    let on = S .stays p q i in omega (arith, S .rises p q i, S .total p (on .0), S .total q (on .1))
+
+module _ (h : Heading) (k : Known h) (g : ℕ → ℕ) (bounded : (p : ℕ) → g p ≤ 65535) (t spare m j p : ℕ) where
+  abbrev W : ℕ
+  W = h .width
+
+  abbrev H : ℕ
+  H = h .height
+
+  abbrev b : Bool
+  b = h .backwards
+
+  S : Side W H (bitOf h) b
+  S = side W H (bitOf h) (bit-listed (h .index) (k .listed)) b
+
+  -- the numbers of the plane with the gaps that are left
+  module _ (numbers : ℕ → ℕ) (left : ℕ) (is-left : left ≡ j - under t (g p))
+      (held : (q : ℕ) → q < W * H → room W H (bitOf h) b q ≤ m + spare → numbers q ≡ reach (around b W H (bitOf h)) g m left q)
+      (from : Leads W H (bitOf h) b g t spare (suc m) j p) where
+    -- what is known of each neighbour's number
+    near-held : (q : ℕ) → List·Memᴰ q (around b W H (bitOf h) p) → numbers q ≡ reach (around b W H (bitOf h)) g m left q
+    near-held q i = held q (S .stays p q i .1) (omega (arith, room-falls S p q i, from .near))
+
+    some-fits : (q : ℕ) × Fitting numbers h p m t q
+    some-fits =
+        let e = spent (around b W H (bitOf h)) g bounded t m j p (from .counts) in
+        let n = neighbour S g t m left p (from .on) (from .roomy) (rw is-left (e .1)) in
+        (n .0, record { near = n .1; roomy = n .3; high = omega (arith, near-held (n .0) (n .1), n .2) })
+
+    pub leads-on : (r : ℕ) → Chosen numbers h p m t r → List·Memᴰ r (around b W H (bitOf h) p) × Leads W H (bitOf h) b g t spare m left r
+    leads-on r c =
+        let f = c .fits (c .found (some-fits .0) (some-fits .1)) in (
+          f .near,
+          record {
+            on = S .stays p r (f .near) .1;
+            counts = omega (arith, near-held r (f .near), f .high);
+            roomy = f .roomy;
+            near = omega (arith, room-falls S p r (f .near), from .near);
+          },
+        )

@@ -1,0 +1,4 @@
+pub mod Rooms
+pub mod Neighbours
+pub mod Leading
+pub mod Trails

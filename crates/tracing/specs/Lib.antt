@@ -1,0 +1,3 @@
+pub mod Headings
+pub mod Choosing
+pub mod Following

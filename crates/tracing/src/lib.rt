@@ -1,0 +1,3 @@
+// The trace: one path through a picked pixel.
+mod choose;
+mod heading;
