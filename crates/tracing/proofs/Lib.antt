@@ -2,3 +2,6 @@ pub mod Rooms
 pub mod Neighbours
 pub mod Leading
 pub mod Trails
+pub mod Directions
+pub mod Searching
+pub mod Modes

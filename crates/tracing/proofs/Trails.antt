@@ -15,6 +15,12 @@ use Rattle.tracing.specs.Following.{indexAfter, Within, Behind, Trail, l
 
 -- ---- the indices of a trail
 
+pub index-back : (b : Bool) (i : ℕ) → b ≡ true → i - 1 ≡ indexAfter b i 1
+index-back b i e = rw e
+
+pub index-on : (b : Bool) (i : ℕ) → b ≡ false → i + 1 ≡ indexAfter b i 1
+index-on b i e = rw e
+
 pub index-first : (b : Bool) (start : ℕ) → indexAfter b start 0 ≡ start
 index-first true start = omega arith
 index-first false start = omega arith

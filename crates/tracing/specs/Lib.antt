@@ -1,3 +1,5 @@
 pub mod Headings
 pub mod Choosing
 pub mod Following
+pub mod Usable
+pub mod Finding

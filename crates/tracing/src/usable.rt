@@ -1,0 +1,58 @@
+// The directions in which a trace can look: chosen, and with paths that are long enough.
+ghost use mathlib.Core.Path.{_≡_};
+ghost use Prim.Native.Nat.{_^_, _≤_, _<_};
+ghost use Rattle.plate.specs.Paths.{span};
+ghost use Rattle.tracing.specs.Usable.{usable, FirstUsable};
+use plate::Setting;
+
+// The bit of the direction at this index of the step table.
+pub(crate) fn bit_of(index: usize) -> usize
+    requires { ⌜ index < 4 ⌝ }
+    ensures { λ r. ⌜ (r ≡ 2 ^ index) × (1 ≤ r) ⌝ }
+{
+    match index {
+        0 => 1,
+        1 => 2,
+        2 => 4,
+        _ => 8,
+    }
+}
+
+// The length of the longest paths in the direction at this index.
+pub(crate) fn span_of(width: usize, height: usize, index: usize) -> usize
+    requires { ⌜ (1 ≤ width) × (width ≤ 1024) × (1 ≤ height) × (height ≤ 1024) × (index < 4) ⌝ }
+    ensures { λ r. ⌜ (r ≡ span width height (2 ^ index)) × (r ≤ 2047) ⌝ }
+{
+    if index == 0 {
+        return height;
+    }
+    if index == 1 {
+        return width;
+    }
+    width + height - 1
+}
+
+pub(crate) fn is_usable(width: usize, height: usize, setting: Setting, index: usize) -> bool
+    requires { ⌜ (1 ≤ width) × (width ≤ 1024) × (1 ≤ height) × (height ≤ 1024) × (index < 4) ⌝ }
+    ensures { λ r. ⌜ r ≡ usable width height setting (2 ^ index) ⌝ }
+{
+    if setting.directions / bit_of(index) % 2 != 1 {
+        return false;
+    }
+    setting.length <= span_of(width, height, index)
+}
+
+// The index of the first usable direction, or past the table where there is none.
+pub(crate) fn first_usable(width: usize, height: usize, setting: Setting) -> usize
+    requires { ⌜ (1 ≤ width) × (width ≤ 1024) × (1 ≤ height) × (height ≤ 1024) ⌝ }
+    ensures { λ r. ⌜ FirstUsable width height setting r ⌝ }
+{
+    let mut index = 0;
+    while index < plate::DIRECTIONS {
+        if is_usable(width, height, setting, index) {
+            return index;
+        }
+        index += 1;
+    }
+    index
+}
