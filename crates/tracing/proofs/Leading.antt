@@ -9,7 +9,7 @@ use native.Mathlib.Omega.{arith}
 use Rattle.basics.proofs.Numbers.{le-or-lt}
 use Rattle.theory.proofs.LevelSets.{under, under-low, under-high, reach}
 use Rattle.theory.proofs.Maxima.{best}
-use Rattle.theory.proofs.Sides.{around, room, other, Side, side}
+use Rattle.theory.proofs.Sides.{around, room, Side, side, room-falls}
 use Rattle.theory.proofs.Following.{reach-high, reach-low, reach-last, neighbour}
 use Rattle.tracing.specs.Headings.{bitOf, Known}
 use Rattle.tracing.specs.Choosing.{Fitting, Chosen}
@@ -32,11 +32,6 @@ module _ (next : ℕ → List ℕ) (g : ℕ → ℕ) (bounded : (p : ℕ) → g 
   pub spent-last : (j p : ℕ) → t ≤ reach next g 0 j p → under t (g p) ≤ j
   spent-last j p r =
       ⊎-elim (λ h. omega (arith, under-high t (g p) h)) (λ h. omega (arith, under-low t (g p) h, reach-last next g bounded t j p h r)) (le-or-lt t (g p))
-
--- a step takes room away
-pub room-falls : {W H bit : ℕ} {b : Bool} → Side W H bit b → (p q : ℕ) → List·Memᴰ q (around b W H bit p) → room W H bit b q < room W H bit b p
-room-falls {W} {H} {bit} {b} S p q i =
-    let on = S .stays p q i in omega (arith, S .rises p q i, S .total p (on .0), S .total q (on .1))
 
 module _ (h : Heading) (k : Known h) (g : ℕ → ℕ) (bounded : (p : ℕ) → g p ≤ 65535) (t spare m j p : ℕ) where
   abbrev W : ℕ

@@ -1,0 +1,4 @@
+pub mod Rooms
+pub mod SetLaws
+pub mod WorkLaws
+pub mod CheckpointLaws
