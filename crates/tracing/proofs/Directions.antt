@@ -16,7 +16,7 @@ use Rattle.plate.specs.declared.setting.Setting.{Setting}
 use Rattle.theory.proofs.Ranks.{bits}
 use Rattle.theory.proofs.Span.{Spans, chosen-bits, crossed-spans, spans-crossed}
 use Rattle.tracing.specs.Usable.{usable, FirstUsable}
-use Rattle.tracing.proofs.Rooms.{bit-listed}
+use Rattle.engine.proofs.Rooms.{bit-listed}
 
 -- ---- bit and span of a direction
 

@@ -15,7 +15,7 @@ use Rattle.tracing.specs.Headings.{bitOf, Known}
 use Rattle.tracing.specs.Choosing.{Fitting, Chosen}
 use Rattle.tracing.specs.Following.{Leads}
 use Rattle.tracing.specs.declared.heading.Heading.{Heading}
-use Rattle.tracing.proofs.Rooms.{bit-listed}
+use Rattle.engine.proofs.Rooms.{bit-listed}
 
 -- the gaps that are left after a pixel
 module _ (next : ℕ → List ℕ) (g : ℕ → ℕ) (bounded : (p : ℕ) → g p ≤ 65535) (t : ℕ) where

@@ -1,22 +1,14 @@
 -- Rank and room of a pixel, as the code computes them: the rank from what its row adds to its column, the room from the rank.
 use Prim.Native.Nat.{ℕ, _+_, _-_, _*_, _/_, _%_, _^_, _≤_, _<_}
-use mathlib.Core.Path.{_≡_, refl, sym, ap, _∙_}
+use mathlib.Core.Path.{_≡_, refl}
 use mathlib.Core.Bool.{Bool, true, false}
-use mathlib.Core.List.{List·Memᴰ, List·Memᴰ·head, List·Memᴰ·tail}
 use native.Mathlib.Omega.{arith}
 use Rattle.basics.proofs.Numbers.{below-four}
-use Rattle.plate.specs.Directions.{table}
 use Rattle.plate.specs.Paths.{span}
-use Rattle.theory.proofs.Ranks.{rankAt, rank, bits, ranked}
+use Rattle.theory.proofs.Ranks.{rankAt, rank, ranked}
 use Rattle.theory.proofs.Sides.{room}
 use Rattle.kernel.specs.Rows.{shift}
-
--- the bit of the direction at an index of the table
-pub bit-listed : (index : ℕ) → index < 4 → List·Memᴰ (2 ^ index) bits
-unfolding table
-bit-listed index h =
-    below-four (λ (i : ℕ). List·Memᴰ (2 ^ i) bits) (List·Memᴰ·head refl) (List·Memᴰ·tail (List·Memᴰ·head refl))
-    (List·Memᴰ·tail (List·Memᴰ·tail (List·Memᴰ·head refl))) (List·Memᴰ·tail (List·Memᴰ·tail (List·Memᴰ·tail (List·Memᴰ·head refl)))) index h
+use Rattle.engine.proofs.Rooms.{bit-listed}
 
 pub span-small : (W H index : ℕ) → index < 4 → W ≤ 1024 → H ≤ 1024 → span W H (2 ^ index) ≤ 2048
 unfolding span

@@ -20,7 +20,8 @@ use Rattle.tracing.specs.Following.{Leads}
 use Rattle.tracing.specs.Finding.{Noted, sharedAt, termAt, Possible, FromNotes, RowSearched, Searched, Attained}
 use Rattle.tracing.specs.declared.find.Found.{Found}
 use Rattle.tracing.specs.declared.find.Notes.{Notes}
-use Rattle.tracing.proofs.Rooms.{bit-listed, rank-below}
+use Rattle.engine.proofs.Rooms.{bit-listed}
+use Rattle.tracing.proofs.Rooms.{rank-below}
 
 -- ---- one row
 

@@ -5,9 +5,10 @@ use mathlib.Core.Path.{_≡_}
 use mathlib.Core.Bool.{Bool, true, false}
 use mathlib.Core.List.{List, List·Memᴰ}
 use lib.ListN.{length, getD}
-use Rattle.theory.proofs.LevelSets.{reach}
+use Rattle.theory.proofs.LevelSets.{under, reach}
 use Rattle.theory.proofs.Sides.{around, room}
 use Rattle.theory.proofs.Recorded.{lowFrom}
+use Rattle.tracing.specs.declared.follow.Stand.{Stand}
 
 -- From p a walk of m steps leads on that has at most j pixels below t, and no more room than `spare` is left beside it: p stands where a path has
 -- it that is so much shorter than the longest.
@@ -16,6 +17,12 @@ pub record Leads (W H bit : ℕ) (backwards : Bool) (g : ℕ → ℕ) (t spare m
   pub counts : t ≤ reach (around backwards W H bit) g m j p
   pub roomy : m ≤ room W H bit backwards p
   pub near : room W H bit backwards p ≤ m + spare
+
+-- from one stand to the next: a step, a gap less where the pixel that is left is below t, and a walk of m steps that leads on
+pub record GoesOn (W H bit : ℕ) (backwards : Bool) (g : ℕ → ℕ) (t spare m : ℕ) (from to : Stand) : Type 0 where
+  pub near : List·Memᴰ (to .place) (around backwards W H bit (from .place))
+  pub spent : to .gaps + under t (g (from .place)) ≡ from .gaps
+  pub leads : Leads W H bit backwards g t spare m (to .gaps) (to .place)
 
 -- the index after s steps
 abbrev pub indexAfter : Bool → ℕ → ℕ → ℕ
