@@ -1,6 +1,6 @@
 -- General laws of lists: what is in them, and the functions of specs/Lists.antt. They come in pairs: `-find` says what a passed test or an element
 -- of a made list comes from, `-keep` makes one.
-use Prim.Native.Nat.{ℕ, zero, suc, _+_, _≤_, _<_}
+use Prim.Native.Nat.{ℕ, zero, suc, _+_, _-_, _≤_, _<_}
 use mathlib.Core.Path.{_≡_, refl, sym, ap, subst, _∙_}
 use mathlib.Core.Bool.{Bool, true, false}
 use mathlib.Core.List.{List, [], _∷_, _++_, map, flatMap, zipWith, reverseAux, append-nil, List·Memᴰ, List·Memᴰ·head, List·Memᴰ·tail, List·Memᴰ·cases-cons, List·Memᴰ·not-nil, List·Memᴰ·append-cases, Memᴰ·append-left, Memᴰ·append-right}
@@ -8,8 +8,8 @@ use mathlib.Core.Logic.{⊎-elim}
 use native.Mathlib.Numerals.{add-one}
 use native.Mathlib.Omega.{arith}
 use lib.Dec.{T}
-use lib.ListN.{length, getD, take, drop, set, replicate, drop-of-length-le}
-use lib.Seq.{drop-cons, take-suc, set-at, append-snoc, length-take-le, take-all}
+use lib.ListN.{length, getD, take, drop, set, replicate, length-append, length-drop, drop-of-length-le, List·getD-append}
+use lib.Seq.{drop-cons, take-suc, set-at, append-snoc, length-take-le, take-all, getD-append-add, getD-take, getD-drop}
 use Rattle.basics.specs.Lists.{any, keep, firstOf, upFrom}
 use Rattle.basics.proofs.Numbers.{le-or-lt}
 use Rattle.basics.proofs.Tests.{true-or-false, T-true, true-T, or-cases, or-left, or-right}
@@ -200,8 +200,48 @@ any-default [] i d e h = absurd (omega arith)
 any-default (x ∷ xs) zero d e h = refl
 any-default (x ∷ xs) (suc i) d e h = any-default xs i d e (omega arith)
 
+-- and it is one of the list's elements
+pub getD-in : {A : Type 0} (xs : List A) (i : ℕ) (d : A) → i < length xs → List·Memᴰ (getD xs i d) xs
+getD-in [] i d h = absurd (omega arith)
+getD-in (x ∷ xs) zero d h = List·Memᴰ·head refl
+getD-in (x ∷ xs) (suc i) d h = List·Memᴰ·tail (getD-in xs i d (omega arith))
+
 -- copies of d, and d past them, are d everywhere
 pub replicate-default : {A : Type 0} (n k : ℕ) (d : A) → getD (replicate n d) k d ≡ d
 replicate-default zero k d = refl
 replicate-default (suc n) zero d = refl
 replicate-default (suc n) (suc k) d = replicate-default n k d
+
+-- ---- a stretch of a list replaced: within it the new elements stand, before and after it the old ones
+
+module _ {A : Type 0} (xs ys : List A) (at k : ℕ) (d : A) (fits : at + k ≤ length xs) (size : length ys ≡ k) where
+  past-start : (i : ℕ) → getD (take at xs ++ (ys ++ drop k (drop at xs))) (at + i) d ≡ getD (ys ++ drop k (drop at xs)) i d
+  past-start i =
+      ap (λ (n : ℕ). getD (take at xs ++ (ys ++ drop k (drop at xs))) (n + i) d) (sym (length-take-le at xs (omega arith)))
+      ∙ getD-append-add (take at xs) (ys ++ drop k (drop at xs)) i d
+
+  pub replaced-inside : (i : ℕ) → i < k → getD (take at xs ++ (ys ++ drop k (drop at xs))) (at + i) d ≡ getD ys i d
+  replaced-inside i h = past-start i ∙ List·getD-append ys (drop k (drop at xs)) d i (omega arith)
+
+  pub replaced-under : (q : ℕ) → q < at → getD (take at xs ++ (ys ++ drop k (drop at xs))) q d ≡ getD xs q d
+  replaced-under q h =
+      List·getD-append (take at xs) (ys ++ drop k (drop at xs)) d q (omega (arith, length-take-le at xs (omega arith))) ∙ getD-take at xs q d h
+
+  past-end : (r : ℕ) → getD (take at xs ++ (ys ++ drop k (drop at xs))) (at + (k + r)) d ≡ getD xs (at + (k + r)) d
+  past-end r =
+      past-start (k + r)
+      ∙ ap (λ (n : ℕ). getD (ys ++ drop k (drop at xs)) (n + r) d) (sym size)
+      ∙ getD-append-add ys (drop k (drop at xs)) r d
+      ∙ getD-drop k (drop at xs) r d
+      ∙ getD-drop at xs (k + r) d
+
+  pub replaced-over : (q : ℕ) → at + k ≤ q → getD (take at xs ++ (ys ++ drop k (drop at xs))) q d ≡ getD xs q d
+  replaced-over q h = let e : at + (k + (q - (at + k))) ≡ q = omega arith in rw e at (past-end (q - (at + k)))
+
+  pub replaced-length : length (take at xs ++ (ys ++ drop k (drop at xs))) ≡ length xs
+  replaced-length =
+      simp (length-append, length-drop) (omega (arith, length-take-le at xs (omega arith)))
+
+-- a stretch of a list, by its places in the whole
+pub stretch-at : {A : Type 0} (xs : List A) (at k i : ℕ) (d : A) → i < k → getD (take k (drop at xs)) i d ≡ getD xs (at + i) d
+stretch-at xs at k i d h = getD-take k (drop at xs) i d h ∙ getD-drop at xs i d

@@ -25,14 +25,14 @@ planeAt set n j q = getD set (j * n + q) 0
 
 -- ---- the steps of the table
 
-record SmallStep (s : Step) : Type 0 where
-  column : Small (s .column)
-  row : Small (s .row)
+pub record SmallStep (s : Step) : Type 0 where
+  pub column : Small (s .column)
+  pub row : Small (s .row)
 
 small : {s : Step} → Small (s .column) → Small (s .row) → SmallStep s
 small c r = record { column = c; row = r }
 
-small-steps : (index number : ℕ) → index < 4 → number < 3 → SmallStep (stepAt index number)
+pub small-steps : (index number : ℕ) → index < 4 → number < 3 → SmallStep (stepAt index number)
 unfolding stepAt table
 small-steps index number h k =
     below-four (λ (i : ℕ). SmallStep (stepAt i number))
@@ -70,7 +70,7 @@ best-three g W H p s₀ s₁ s₂ =
     let d = best-none g in
     omega arith
 
-around-steps :
+pub around-steps :
     (backwards : Bool) (W H index p : ℕ) → index < 4 →
     around backwards W H (2 ^ index) p ≡ reachedBy W H (toward backwards (stepAt index 0) ∷ toward backwards (stepAt index 1) ∷ toward backwards (stepAt index 2) ∷ []) p
 unfolding around back next toward

@@ -33,7 +33,8 @@ landing g leaves = 0
 
 -- ---- coordinates plus one
 
-less : ℕ → ℤ
+-- the coordinate that is X plus one
+unfoldable pub less : ℕ → ℤ
 less zero = negsuc 0
 less (suc X) = pos X
 
@@ -65,6 +66,14 @@ moved false c one-less = less-down c
 moved false c no-change = less-none c
 moved false c one-more = less-up c
 
+-- where a step leads from a place of the plate
+pub step-place :
+    (W H : ℕ) (back : Bool) (s : Step) (p : ℕ) → Small (s .column) → Small (s .row) → p < W * H →
+    stepFrom W H p (toward back s) ≡ placeAt W H (less (p % W + biased back (s .column))) (less (p / W + biased back (s .row)))
+unfolding stepFrom toward minus
+step-place W H true s p dc dr l = rw (lt-ltb p (W * H) l, moved true (p % W) dc, moved true (p / W) dr)
+step-place W H false s p dc dr l = rw (lt-ltb p (W * H) l, moved false (p % W) dc, moved false (p / W) dr)
+
 -- ---- the place reached
 
 module _ (a : List ℕ) (start W H : ℕ) where
@@ -93,14 +102,9 @@ module _ (a : List ℕ) (start W H : ℕ) where
         ]
       ]
 
-  -- what a step leads to from a place of the plate
+  -- what a step leads to
   pub step-cell :
       (back : Bool) (s : Step) (p : ℕ) → Small (s .column) → Small (s .row) → p < W * H →
       landing (λ q. getD a (start + q) 0) (stepFrom W H p (toward back s)) ≡ cell a start W H (p / W + biased back (s .row)) (p % W + biased back (s .column))
-  unfolding stepFrom toward minus
-  step-cell true s p dc dr l =
-      rw (lt-ltb p (W * H) l, moved true (p % W) dc, moved true (p / W) dr)
-      (landing-cell (p / W + biased true (s .row)) (p % W + biased true (s .column)))
-  step-cell false s p dc dr l =
-      rw (lt-ltb p (W * H) l, moved false (p % W) dc, moved false (p / W) dr)
-      (landing-cell (p / W + biased false (s .row)) (p % W + biased false (s .column)))
+  step-cell back s p dc dr l =
+      rw (step-place W H back s p dc dr l) (landing-cell (p / W + biased back (s .row)) (p % W + biased back (s .column)))

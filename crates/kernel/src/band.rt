@@ -3,13 +3,13 @@ ghost use Prim.Native.Nat.{_+_, _-_, _≤_, _<_, min};
 ghost use Rattle.kernel.specs.Rows.{Covers, shift};
 
 // The columns of a row from `from` below `to`.
-pub(crate) struct Run {
-    pub(crate) from: usize,
-    pub(crate) to: usize,
+pub struct Run {
+    pub from: usize,
+    pub to: usize,
 }
 
 // What a row adds to the rank of its pixels, beside their column.
-fn shift_of(index: usize, h: usize, r: usize) -> usize
+pub fn shift_of(index: usize, h: usize, r: usize) -> usize
     requires { ⌜ (index < 4) × (r < h) ⌝ }
     ensures { λ s. ⌜ s ≡ shift index h r ⌝ }
 {
@@ -43,7 +43,7 @@ fn first_past(hi: usize, shift: usize, w: usize) -> usize
 }
 
 // The columns of row r whose rank is in lo..=hi.
-pub(crate) fn run_in(index: usize, w: usize, h: usize, r: usize, lo: usize, hi: usize) -> Run
+pub fn run_in(index: usize, w: usize, h: usize, r: usize, lo: usize, hi: usize) -> Run
     requires { ⌜ (index < 4) × (r < h) × (lo ≤ hi) ⌝ }
     ensures { λ run. ⌜ Covers index w h r lo hi (run .from) (run .to) ⌝ }
 {

@@ -24,6 +24,13 @@ use crate::rows::hold;
 use crate::rows::renew_row;
 use crate::rows::turned;
 use crate::steps::reach_of;
+pub use band::Run;
+pub use band::run_in;
+pub use band::shift_of;
+pub use runs::max2;
+pub use runs::min2;
+pub use steps::columns_on;
+pub use steps::rows_on;
 
 // One step of every plane of `set` in the direction with this index, or backwards, for the pixels
 // whose rank is in lo..=hi; the others stay as they are. Mode 0 takes the keys of the plate's levels,

@@ -9,13 +9,13 @@ ghost use Rattle.kernel.specs.Runs.{Between, blockSize, greatestAt, blen
 // The room that the held rows of one plane take: three rows of at most 1024 + 2 numbers.
 pub(crate) const BLOCK: usize = 3078;
 
-fn max2(a: u16, b: u16) -> u16
+pub fn max2(a: u16, b: u16) -> u16
     ensures { λ r. ⌜ r ≡ max a b ⌝ }
 {
     if a > b { a } else { b }
 }
 
-fn min2(a: u16, b: u16) -> u16
+pub fn min2(a: u16, b: u16) -> u16
     ensures { λ r. ⌜ r ≡ min a b ⌝ }
 {
     if a < b { a } else { b }

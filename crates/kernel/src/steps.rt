@@ -32,13 +32,13 @@ fn bias(d: i8, backwards: bool) -> usize
     0
 }
 
-fn columns_on(index: usize, number: usize, backwards: bool) -> usize
+pub fn columns_on(index: usize, number: usize, backwards: bool) -> usize
     ensures { λ r. ⌜ (r ≡ across index number backwards) × (r ≤ 2) ⌝ }
 {
     bias(plate::column_change(index, number), backwards)
 }
 
-fn rows_on(index: usize, number: usize, backwards: bool) -> usize
+pub fn rows_on(index: usize, number: usize, backwards: bool) -> usize
     ensures { λ r. ⌜ (r ≡ down index number backwards) × (r ≤ 2) ⌝ }
 {
     bias(plate::row_change(index, number), backwards)

@@ -4,7 +4,7 @@
 use Prim.Native.Nat.{ℕ, zero, suc, _+_, _≤_, _<_, min, max}
 use mathlib.Core.Path.{_≡_, refl}
 use mathlib.Core.Bool.{cond}
-use mathlib.Core.List.{List, [], _∷_, List·Memᴰ}
+use mathlib.Core.List.{List, [], _∷_, List·Memᴰ, List·Memᴰ·head, List·Memᴰ·tail}
 use mathlib.Core.Logic.{⊎-elim}
 use native.Mathlib.Omega.{arith}
 use lib.Dec.{ltb}
@@ -55,6 +55,13 @@ under-high t a h = rw (le-ltb a t h)
 
 pub under-le-one : (t a : ℕ) → under t a ≤ 1
 under-le-one t a = ⊎-elim (λ h. omega (arith, under-high t a h)) (λ h. omega (arith, under-low t a h)) (le-or-lt t a)
+
+-- only the keys of the path's pixels matter
+pub low-pixels-same : (g h : ℕ → ℕ) (t : ℕ) (path : List ℕ) → ((p : ℕ) → List·Memᴰ p path → g p ≡ h p) → lowPixels g t path ≡ lowPixels h t path
+unfolding lowPixels
+low-pixels-same g h t [] same = refl
+low-pixels-same g h t (p ∷ path) same =
+    rw (same p (List·Memᴰ·head refl), low-pixels-same g h t path (λ q i. same q (List·Memᴰ·tail i)))
 
 fewer-find : (g : ℕ → ℕ) (t j : ℕ) → 1 ≤ t → t ≤ fewer g j → (i : ℕ) × (j ≡ suc i) × (t ≤ g i)
 unfolding fewer

@@ -72,6 +72,11 @@ pub side : (W H bit : ℕ) → List·Memᴰ bit bits → (b : Bool) → Side W H
 side W H bit i true = backwards W H bit (ranked W H bit i)
 side W H bit i false = forwards W H bit (ranked W H bit i)
 
+-- every step takes room away
+pub room-falls : {W H bit : ℕ} {b : Bool} → Side W H bit b → (p q : ℕ) → List·Memᴰ q (around b W H bit p) → room W H bit b q < room W H bit b p
+room-falls {W} {H} {bit} {b} S p q i =
+    let on = S .stays p q i in omega (arith, S .rises p q i, S .total p (on .0), S .total q (on .1))
+
 -- a walk of m steps starts at p exactly when p has room for it: here that it then does
 pub side-walk : {W H bit : ℕ} {b : Bool} → Side W H bit b → (m p : ℕ) → p < W * H → m ≤ room W H bit b p → WalkFrom (around b W H bit) m p
 side-walk S zero p h l = record { pixels = p ∷ []; walk = stop }

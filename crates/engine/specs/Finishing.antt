@@ -1,0 +1,65 @@
+-- What holds of a call once every check has passed, and what is made of the gathered levels in the end. These definitions serve contracts inside
+-- the engine only: no public contract cites them.
+use Prim.Native.Nat.{ℕ, _+_, _-_, _*_, _^_, _≤_, _<_, min}
+use mathlib.Core.Path.{_≡_}
+use mathlib.Core.Bool.{cond}
+use mathlib.Core.List.{List}
+use lib.Dec.{eqb}
+use lib.ListN.{length}
+use lib.IntN.{ℤ}
+use lib.Signed.{mag}
+use Rattle.plate.specs.Levels.{level}
+use Rattle.plate.specs.Directions.{member, chosen}
+use Rattle.plate.specs.Paths.{next, span}
+use Rattle.plate.specs.Opening.{levelAt}
+use Rattle.plate.specs.declared.setting.Setting.{Setting}
+use Rattle.theory.proofs.Reversal.{back}
+use Rattle.theory.proofs.Maxima.{best}
+use Rattle.theory.proofs.Decomposition.{keyAt, across}
+use Rattle.kernel.specs.Sets.{keyBy}
+use Rattle.engine.specs.declared.scan.Scan.{Scan}
+
+-- sizes, setting and the lengths of plate, result and work that pass every check
+pub record Accepted (W H : ℕ) (s : Setting) (plate result work : ℕ) : Type 0 where
+  pub wide : 1 ≤ W
+  pub narrow : W ≤ 1024
+  pub high : 1 ≤ H
+  pub low : H ≤ 1024
+  pub few-pixels : W * H ≤ 65536
+  pub long : 1 ≤ s .length
+  pub short : s .length ≤ 1024
+  pub few-gaps : s .gaps ≤ 8
+  pub plate-size : plate ≡ W * H
+  pub result-size : result ≡ W * H
+  pub work-size : 4 * (s .gaps + 1) * (W * H) ≤ work
+
+-- the best path through a pixel in the direction with this bit, but for the pixel's own key
+abbrev pub bestIn : ℕ → ℕ → Setting → List ℤ → ℕ → ℕ → ℕ
+bestIn W H s plate bit x = across (next W H bit) (back W H bit) (λ p. keyBy (s .mode) (levelAt plate p)) (s .length - 1) (s .gaps) x
+
+-- the same where the direction is chosen, else nothing
+unfoldable pub bestIfChosen : ℕ → ℕ → Setting → List ℤ → ℕ → ℕ → ℕ
+bestIfChosen W H s plate bit x = cond (member (s .directions) bit) (bestIn W H s plate bit x) 0
+
+-- and in all chosen directions
+unfoldable pub bestOfAll : ℕ → ℕ → Setting → List ℤ → ℕ → ℕ
+bestOfAll W H s plate x = best (λ bit. bestIn W H s plate bit x) (chosen (s .directions))
+
+-- the scan of a direction, by its place in the table
+pub record ScanOf (r : Scan) (W H : ℕ) (s : Setting) (index : ℕ) : Type 0 where
+  pub is-mode : r .mode ≡ s .mode
+  pub is-width : r .width ≡ W
+  pub is-height : r .height ≡ H
+  pub is-gaps : r .gaps ≡ s .gaps
+  pub is-index : r .index ≡ index
+  pub is-steps : r .steps ≡ s .length - 1
+
+-- the level with a key, or in another mode than 0 its mirror
+unfoldable pub levelBy : ℕ → ℕ → ℤ
+levelBy mode k = cond (eqb mode 0) (level k) (level (65535 - k))
+
+-- each level is what was gathered, but not above the pixel's own; and the plate's levels, each of which is read, have 16 bits
+pub record Finished (mode : ℕ) (plate old new : List ℤ) : Type 0 where
+  pub small : (x : ℕ) → x < length plate → mag (levelAt plate x) < 32768
+  pub is : (x : ℕ) → x < length plate → levelAt new x ≡ levelBy mode (min (keyBy mode (levelAt plate x)) (keyAt old x))
+  pub len : length new ≡ length old
