@@ -1,12 +1,18 @@
 -- Answers as numbers, for C and Rust: the result is 0 where a call is accepted and the refusal's number else; the other values go to lent numbers.
 use Prim.Native.Nat.{ℕ, _+_, _*_}
+use mathlib.Core.Path.{_≡_}
 use mathlib.Core.Bool.{cond, _||_}
 use lib.Dec.{ltb}
 use Rattle.plate.specs.Limits.{maxGaps}
 use Rattle.plate.specs.Refusals.{Verdict, Verdict.accepted, Verdict.refused, badSize}
+use Rattle.plate.specs.declared.setting.Setting.{Setting}
 use Rattle.plate.specs.declared.walker.Walker.{Walker}
 use Rattle.plate.specs.declared.walker.Moved.{Moved}
 use Rattle.plate.specs.declared.walker.Moved.the-variants.{To, Leaves}
+
+-- a setting of four numbers
+abbrev pub settingOf : ℕ → ℕ → ℕ → ℕ → Setting
+settingOf L k directions mode = record { length = L; gaps = k; directions = directions; mode = mode }
 
 -- the result of a call
 abbrev pub numberOf : {A : Type 0} → Verdict A → ℕ
@@ -22,6 +28,11 @@ placeOf (refused number place) = place
 abbrev pub lentAfter : {A X : Type 0} → Verdict A → X → X → X
 lentAfter (accepted a) new old = new
 lentAfter (refused number place) new old = old
+
+-- a lent work buffer: free after an accepted call, and as it was after a refusal
+abbrev pub freeAfter : {A X : Type 0} → Verdict A → X → X → Type 0
+freeAfter (accepted a) old new = Unit
+freeAfter (refused number place) old new = new ≡ old
 
 -- a walker's step: 1 where it leads to a place, which is then written, 0 where it leaves
 abbrev pub hasMoved : Moved → ℕ

@@ -3,11 +3,12 @@
 // include/diilvak.h has the declarations for C, with all that a caller has to know. The result of a
 // call is the refusal's number, 0 where it is done; the other values go to lent numbers.
 ghost use mathlib.Core.Path.{_≡_};
-ghost use lib.ListN.{length};
+ghost use lib.ListN.{length as size};
 ghost use Rattle.plate.specs.Levels.{correctedPlate};
-ghost use Rattle.plate.specs.Refusals.{settingVerdict, correctionVerdict};
+ghost use Rattle.plate.specs.Opening.{filtered};
+ghost use Rattle.plate.specs.Refusals.{settingVerdict, correctionVerdict, filterVerdict};
 ghost use Rattle.plate.specs.Answers.{walked};
-ghost use Rattle.exports.specs.Numbers.{numberOf, placeOf, lentAfter, hasMoved, placeAfter, workLength};
+ghost use Rattle.exports.specs.Numbers.{settingOf, numberOf, placeOf, lentAfter, freeAfter, hasMoved, placeAfter, workLength};
 use plate::Answer;
 use plate::Made;
 use plate::Moved;
@@ -22,7 +23,7 @@ pub extern "C" fn diilvak_check_setting(
     directions: usize,
     mode: usize,
 ) -> usize
-    ensures { λ r. ⌜ r ≡ numberOf (settingVerdict (record { length = length; gaps = gaps; directions = directions; mode = mode })) ⌝ }
+    ensures { λ r. ⌜ r ≡ numberOf (settingVerdict (settingOf length gaps directions mode)) ⌝ }
 {
     let made = Setting::new(length, gaps, directions, mode);
     match made {
@@ -41,9 +42,9 @@ pub extern "C" fn diilvak_correct(
     result: &mut [i16],
     place: &mut usize,
 ) -> usize
-    ensures { λ r. ⌜ r ≡ numberOf (correctionVerdict width height (now (readings .entry)) (now (words .entry)) (length (now (result .entry)))) ⌝ }
-    ensures { λ r. ⌜ now (result .exit) ≡ lentAfter (correctionVerdict width height (now (readings .entry)) (now (words .entry)) (length (now (result .entry)))) (correctedPlate (now (readings .entry)) (now (words .entry))) (now (result .entry)) ⌝ }
-    ensures { λ r. ⌜ now (place .exit) ≡ placeOf (correctionVerdict width height (now (readings .entry)) (now (words .entry)) (length (now (result .entry)))) ⌝ }
+    ensures { λ r. ⌜ r ≡ numberOf (correctionVerdict width height (now (readings .entry)) (now (words .entry)) (size (now (result .entry)))) ⌝ }
+    ensures { λ r. ⌜ now (result .exit) ≡ lentAfter (correctionVerdict width height (now (readings .entry)) (now (words .entry)) (size (now (result .entry)))) (correctedPlate (now (readings .entry)) (now (words .entry))) (now (result .entry)) ⌝ }
+    ensures { λ r. ⌜ now (place .exit) ≡ placeOf (correctionVerdict width height (now (readings .entry)) (now (words .entry)) (size (now (result .entry)))) ⌝ }
 {
     let answer = plate::correct(width, height, readings, words, result);
     match answer {
@@ -100,4 +101,34 @@ pub extern "C" fn diilvak_work_length(width: usize, height: usize, gaps: usize) 
         return 0;
     }
     4 * (gaps + 1) * (width * height)
+}
+
+// The opened (mode 0) or closed (mode 1) plate.
+#[no_mangle]
+pub extern "C" fn diilvak_filter(
+    width: usize,
+    height: usize,
+    plate: &[i16],
+    length: usize,
+    gaps: usize,
+    directions: usize,
+    mode: usize,
+    result: &mut [i16],
+    work: &mut [u16],
+) -> usize
+    ensures { λ r. ⌜ r ≡ numberOf (filterVerdict width height (settingOf length gaps directions mode) (size (now (plate .entry))) (size (now (result .entry))) (size (now (work .entry)))) ⌝ }
+    ensures { λ r. ⌜ now (result .exit) ≡ lentAfter (filterVerdict width height (settingOf length gaps directions mode) (size (now (plate .entry))) (size (now (result .entry))) (size (now (work .entry)))) (filtered (settingOf length gaps directions mode) width height (now (plate .entry))) (now (result .entry)) ⌝ }
+    ensures { λ r. ⌜ freeAfter (filterVerdict width height (settingOf length gaps directions mode) (size (now (plate .entry))) (size (now (result .entry))) (size (now (work .entry)))) (now (work .entry)) (now (work .exit)) ⌝ }
+{
+    let setting = Setting {
+        length: length,
+        gaps: gaps,
+        directions: directions,
+        mode: mode,
+    };
+    let answer = engine::filter(width, height, plate, setting, result, work);
+    match answer {
+        Answer::Done => 0,
+        Answer::Refused { number, place: _ } => number,
+    }
 }
