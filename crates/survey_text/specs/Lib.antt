@@ -1,0 +1,7 @@
+pub mod Bytes
+pub mod Format
+pub mod Reading
+pub mod Printing
+pub mod Answer
+pub mod Buffers
+pub mod Answers
