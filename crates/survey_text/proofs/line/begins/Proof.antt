@@ -1,49 +1,49 @@
+-- `begins` compares byte by byte: the invariant says that what is left of the name is to be found at the front of what is left of the bytes.
+use borrow.Author.Needs.{needs}
+use native.Mathlib.Omega.{arith}
+use mathlib.Core.Path.{_≡_, refl, sym}
+use Prim.Native.Nat.{_≤_, _-_}
+use lib.ListN.{length, drop}
+use Rattle.survey_text.specs.Format.{after}
+use Rattle.survey_text.proofs.Names.{after-more, after-short, after-other, after-end}
 use Rattle.survey_text.proofs.line.begins.Statement.{statement}
 use Rattle.survey_text.proofs.line.begins.Tie as tie
-use Rattle.survey_text.proofs.line.begins.Reads as reads
-use Rattle.survey_text.proofs.line.begins.Lts as lts
 
 abbrev Inv-loop : tie.InvT-loop
-Inv-loop s name i₀ i = ?
+Inv-loop s name i₀ i = (i ≤ length name) × (after name s ≡ after (drop i name) (drop i s))
 
 abbrev μ-loop : tie.MeasureT-loop
-μ-loop s name i₀ i = ?
+μ-loop s name i₀ i = length name - i
 
--- src/line.rt:57:5
 loop-holds : tie.Need-loop-holds Inv-loop μ-loop
-loop-holds c = ?
+loop-holds c = (search needs, refl)
 
--- src/line.rt:59:13
 returns : tie.Need-returns Inv-loop μ-loop
-returns c = ?
+returns c = let l = c .before .before .loop in
+    sym (after-short _ _ (l .i) (l .inv .1) (omega arith) (omega arith))
 
--- src/line.rt:61:12
 shared-slice-read-if2 : tie.Need-shared-slice-read-if2 Inv-loop μ-loop
-shared-slice-read-if2 c = ?
+shared-slice-read-if2 c = search needs
 
--- src/line.rt:61:20
 shared-slice-read-if2-2 : tie.Need-shared-slice-read-if2-2 Inv-loop μ-loop
-shared-slice-read-if2-2 c = ?
+shared-slice-read-if2-2 c = search needs
 
--- src/line.rt:62:13
 returns-2 : tie.Need-returns-2 Inv-loop μ-loop
-returns-2 c = ?
+returns-2 c = let l = c .before .before .before .before .before .loop in
+    sym (after-other _ _ (l .i) (l .inv .1) (omega arith) (omega arith) (c .if2 .taken))
 
--- src/line.rt:64:9
 add-i : tie.Need-add-i Inv-loop μ-loop
-add-i c = ?
+add-i c = search needs
 
--- src/line.rt:57:5
 loop-less : tie.Need-loop-less Inv-loop μ-loop
-loop-less c = ?
+loop-less c = search needs
 
--- src/line.rt:57:5
 loop-again : tie.Need-loop-again Inv-loop μ-loop
-loop-again c = ?
+loop-again c = let l = c .before .before .before .before .before .loop in
+    (omega arith, after-more _ _ (l .i) (l .inv .1) (omega arith) (omega arith) (c .if2 .left))
 
--- src/line.rt:53:1
 returns-3 : tie.Need-returns-3 Inv-loop μ-loop
-returns-3 c = ?
+returns-3 c = sym (after-end _ _ (c .before .loop .i) (c .before .loop .inv .1) (omega arith))
 
 pub begins-spec : {M : Type 1} → statement M
 begins-spec =
