@@ -9,7 +9,7 @@ use native.Mathlib.Numerals.{add-one}
 use native.Mathlib.Omega.{arith}
 use lib.Dec.{T}
 use lib.ListN.{length, getD, take, drop, set, drop-of-length-le}
-use lib.Seq.{drop-cons, take-suc, set-at, append-snoc, length-take-le, take-all}
+use lib.Seq.{drop-cons, take-suc, set-at, append-snoc, length-take-le, take-all, take-nil}
 use Rattle.basics.specs.Lists.{any, keep, firstOf, upFrom}
 use Rattle.basics.proofs.Tests.{true-or-false, T-true, true-T, or-cases, or-left, or-right}
 
@@ -187,3 +187,11 @@ pub one-of-three : {A : Type 0} (P : A → Type 0) {a b c x : A} → P a → P b
 one-of-three P u v w (List·Memᴰ·head e) = rw e u
 one-of-three P u v w (List·Memᴰ·tail (List·Memᴰ·head e)) = rw e v
 one-of-three P u v w (List·Memᴰ·tail (List·Memᴰ·tail (List·Memᴰ·head e))) = rw e w
+
+-- ---- the rest of a front part is a front part of the rest
+
+pub drop-take : {A : Type 0} (k n : ℕ) (l : List A) → drop k (take n l) ≡ take (n - k) (drop k l)
+drop-take zero n l = let e : n - 0 ≡ n = omega arith in rw e
+drop-take (suc k) zero l = let e : 0 - suc k ≡ 0 = omega arith in rw e
+drop-take (suc k) (suc n) [] = sym (take-nil (suc n - suc k))
+drop-take (suc k) (suc n) (x ∷ l) = let e : suc n - suc k ≡ n - k = omega arith in drop-take k n l ∙ rw e

@@ -1,2 +1,5 @@
 pub mod Digits
 pub mod Names
+pub mod Lines
+pub mod NextLine
+pub mod Parts

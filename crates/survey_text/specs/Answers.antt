@@ -37,7 +37,7 @@ whether false a = none
 
 -- where a named line's value stands, and where its newline is
 abbrev pub valueRead : List ℕ → Value → Option (List ℕ × List ℕ)
-valueRead text (Between from end) = some (take (end - from) (drop from text), drop (suc end) text)
+valueRead text (Between from end) = some (take (end - from) (drop from text), drop (end + 1) text)
 valueRead text NoValue = none
 
 -- the value and its newline lie in a text of n bytes

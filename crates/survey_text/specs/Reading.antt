@@ -1,6 +1,6 @@
 -- Document 01, section 6: reading a plate's text, in the order in which it is judged: the text's length, the lines up to `height=`, refusals 1 and 14
 -- on the size, then the other lines.
-use Prim.Native.Nat.{ℕ, zero, suc, _*_}
+use Prim.Native.Nat.{ℕ, zero, suc, _+_, _*_}
 use mathlib.Core.Bool.{cond}
 use mathlib.Core.List.{List, [], _∷_, _++_}
 use mathlib.Core.Option.{Option, none, some}
@@ -47,7 +47,7 @@ lineVerdict line none = refused 13 line
 unfoldable pub next : {A : Type 0} → List ℕ → (List ℕ → Option A) → Rest → Verdict (A × Rest)
 next name form l =
     lineVerdict (l .line)
-    (named name (l .bytes) then λ n. form (n .0) then λ a. some (a, record { line = suc (l .line); bytes = n .1 }))
+    (named name (l .bytes) then λ n. form (n .0) then λ a. some (a, record { line = l .line + 1; bytes = n .1 }))
 
 -- no line is left: an extra line is refused with 13 and its number
 unfoldable pub atEnd : Rest → Verdict Unit

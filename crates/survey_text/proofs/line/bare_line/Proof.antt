@@ -1,41 +1,54 @@
+-- `bare_line` finds the line's value, which has to be empty: each return is a law of the next line.
 use borrow.Author.Needs.{needs}
+use native.Mathlib.Omega.{arith}
+use mathlib.Core.Path.{_≡_}
+use Prim.Native.Nat.{_-_, _≤_, _<_}
+use lib.ListN.{length, take, drop, length-drop}
+use lib.Seq.{length-take-le}
+use Rattle.survey_text.specs.Format.{nothing}
+use Rattle.survey_text.proofs.Lines.{something, nothing-more}
+use Rattle.survey_text.proofs.NextLine.{next-no-name, next-no-value, next-value}
 use Rattle.survey_text.proofs.line.bare_line.Statement.{statement}
 use Rattle.survey_text.proofs.line.bare_line.Tie as tie
-use Rattle.survey_text.proofs.line.bare_line.Reads as reads
-use Rattle.survey_text.proofs.line.bare_line.Lts as lts
-use Rattle.survey_text.proofs.line.value_at.Reads as value-at-reads
 
--- src/line.rt:117:9
 value-at-requires : tie.Need-value-at-requires
 value-at-requires c κs = search needs
 
--- src/line.rt:118:26
 enum-known-found : tie.Need-enum-known-found
 enum-known-found c = search needs
 
--- src/line.rt:119:9
 enum-told : tie.Need-enum-told
 enum-told c = search needs
 
--- src/line.rt:119:9
 returns : tie.Need-returns
-returns c = ?
+returns c = let b = c .before .before .before .before .before in
+    next-no-name (b .args .name .now) nothing _ (rw (c .enum-told .given .1) at (c .before .before .value-at .ensures .0))
 
--- src/line.rt:122:9
+-- the value lies in the text
+inside : (c : tie.After-found) → (c .found .given .0 .0 ≤ c .found .given .0 .1 .0) × (c .found .given .0 .1 .0 < length (c .before .before .before .before .before .args .s .now))
+inside c = rw (c .found .given .1) at (c .before .before .value-at .ensures .1)
+
+-- and is so long
+sized : (c : tie.After-found) → length (take (c .found .given .0 .1 .0 - c .found .given .0 .0) (drop (c .found .given .0 .0) (c .before .before .before .before .before .args .s .now))) ≡ c .found .given .0 .1 .0 - c .found .given .0 .0
+sized c = let i = inside c in length-take-le _ _ (simp length-drop (omega arith))
+
 returns-2 : tie.Need-returns-2
-returns-2 c = ?
+returns-2 c = let f = c .before .before in
+    let b = f .before .before .before .before .before in
+    next-no-value (b .args .name .now) nothing _ _ _ (rw (f .found .given .1) at (f .before .before .value-at .ensures .0))
+    (something _ (omega (arith, sized f, c .if1 .taken)))
 
--- src/line.rt:125:13
 add-t8 : tie.Need-add-t8
-add-t8 c = ?
+add-t8 c = omega (arith, inside (c .before .before) .1)
 
--- src/line.rt:126:15
 add-t9 : tie.Need-add-t9
 add-t9 c = search needs
 
--- src/line.rt:113:1
 returns-3 : tie.Need-returns-3
-returns-3 c = ?
+returns-3 c = let f = c .before .before .before in
+    let b = f .before .before .before .before .before in
+    next-value (b .args .name .now) nothing _ _ _ (rw (f .found .given .1) at (f .before .before .value-at .ensures .0))
+    (nothing-more _ (omega (arith, sized f, c .before .if1 .left)))
 
 pub bare-line-spec : {M : Type 1} → statement M
 bare-line-spec =

@@ -1,66 +1,67 @@
+-- `number_line` finds the line's value and reads it: each return is a law of the next line.
 use borrow.Author.Needs.{needs}
+use native.Mathlib.Omega.{arith}
+use mathlib.Core.Path.{_≡_}
+use mathlib.Core.Option.{none, some}
+use Prim.Native.Nat.{_+_, _-_, _≤_, _<_}
+use lib.ListN.{length, take, drop}
+use Rattle.survey_text.specs.Format.{number, named}
+use Rattle.survey_text.proofs.NextLine.{next-no-name, next-no-value, next-value}
 use Rattle.survey_text.proofs.line.number_line.Statement.{statement}
 use Rattle.survey_text.proofs.line.number_line.Tie as tie
-use Rattle.survey_text.proofs.line.number_line.Reads as reads
-use Rattle.survey_text.proofs.line.number_line.Lts as lts
-use Rattle.survey_text.proofs.line.value_at.Reads as value-at-reads
-use Rattle.survey_text.proofs.number.number_in.Reads as number-in-reads
 
--- src/line.rt:95:9
 value-at-requires : tie.Need-value-at-requires
 value-at-requires c κs = search needs
 
--- src/line.rt:96:26
 enum-known-found : tie.Need-enum-known-found
 enum-known-found c = search needs
 
--- src/line.rt:97:9
 enum-told : tie.Need-enum-told
 enum-told c = search needs
 
--- src/line.rt:97:9
 returns : tie.Need-returns
-returns c = ?
+returns c = let b = c .before .before .before .before .before in
+    next-no-name (b .args .name .now) number _ (rw (c .enum-told .given .1) at (c .before .before .value-at .ensures .0))
 
--- src/line.rt:99:25
+-- the value lies in the text
+inside : (c : tie.After-found) → (c .found .given .0 .0 ≤ c .found .given .0 .1 .0) × (c .found .given .0 .1 .0 < length (c .before .before .before .before .before .args .s .now))
+inside c = rw (c .found .given .1) at (c .before .before .value-at .ensures .1)
+
 sub-number-in : tie.Need-sub-number-in
-sub-number-in c = ?
+sub-number-in c = inside (c .before) .0
 
--- src/line.rt:99:25
 part-number-in-start : tie.Need-part-number-in-start
-part-number-in-start c = ?
+part-number-in-start c = inside (c .before) .0
 
--- src/line.rt:99:25
 part-number-in-end : tie.Need-part-number-in-end
-part-number-in-end c = ?
+part-number-in-end c = omega (arith, inside (c .before) .1)
 
--- src/line.rt:99:9
 number-in-requires : tie.Need-number-in-requires
 number-in-requires c κs = search needs
 
--- src/line.rt:100:20
 enum-known-got : tie.Need-enum-known-got
 enum-known-got c = search needs
 
--- src/line.rt:101:9
 enum-told-2 : tie.Need-enum-told-2
 enum-told-2 c = search needs
 
--- src/line.rt:101:9
 returns-2 : tie.Need-returns-2
-returns-2 c = ?
+returns-2 c = let f = c .before .before .before .before .before in
+    let b = f .before .before .before .before .before in
+    next-no-value (b .args .name .now) number _ _ _ (rw (f .found .given .1) at (f .before .before .value-at .ensures .0))
+    (rw (c .enum-told2 .given .1) at (c .before .before .number-in .ensures))
 
--- src/line.rt:106:17
 add-t10 : tie.Need-add-t10
-add-t10 c = ?
+add-t10 c = omega (arith, inside (c .before .before .before .before .before .before) .1)
 
--- src/line.rt:107:19
 add-t13 : tie.Need-add-t13
 add-t13 c = search needs
 
--- src/line.rt:91:1
 returns-3 : tie.Need-returns-3
-returns-3 c = ?
+returns-3 c = let f = c .before .before .before .before .before .before .before in
+    let b = f .before .before .before .before .before in
+    next-value (b .args .name .now) number _ _ _ (rw (f .found .given .1) at (f .before .before .value-at .ensures .0))
+    (rw (c .before .before .got .given .1) at (c .before .before .before .before .number-in .ensures))
 
 pub number-line-spec : {M : Type 1} → statement M
 number-line-spec =
