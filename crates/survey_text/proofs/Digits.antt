@@ -3,7 +3,8 @@ use Prim.Native.Nat.{ℕ, suc, _+_, _-_, _*_, _^_, _≤_, _<_}
 use mathlib.Core.Path.{_≡_, refl, _∙_}
 use mathlib.Core.Bool.{true, false, cond, _&&_}
 use mathlib.Core.List.{List, []}
-use mathlib.Core.Option.{none, some}
+use mathlib.Core.Option.{Option, none, some}
+use mathlib.Core.Logic.{⊎-elim}
 use native.Mathlib.Numerals.{add-one}
 use native.Mathlib.Nat.{pow-suc, pow-le-pow-right}
 use native.Mathlib.Omega.{arith}
@@ -11,7 +12,7 @@ use lib.Dec.{leb, T}
 use lib.ListN.{length, getD, drop, drop-of-length-le}
 use lib.Seq.{drop-cons}
 use borrow.Author.Tests.{leb-true, le-leb}
-use Rattle.basics.proofs.Tests.{and-both, true-T, T-true}
+use Rattle.basics.proofs.Tests.{true-or-false, and-both, true-T, T-true}
 use Rattle.survey_text.specs.Bytes.{zeroDigit}
 use Rattle.survey_text.specs.Format.{_>>=_, maxDigits, maxNumber, isDigit, valueAfter, number}
 
@@ -38,6 +39,21 @@ module _ (s : List ℕ) (i v : ℕ) (walk : valueAfter 0 s ≡ valueAfter v (dro
 pub number-sized : (s : List ℕ) → 1 ≤ length s → length s ≤ maxDigits → number s ≡ (valueAfter 0 s >>= λ v. cond (leb v maxNumber) (some v) none)
 unfolding number
 number-sized s h k = rw (le-leb 1 (length s) h, le-leb (length s) maxDigits k)
+
+-- a number is at most 65,535
+at-most : (o : Option ℕ) (v : ℕ) → some v ≡ (o >>= λ w. cond (leb w maxNumber) (some w) none) → v ≤ maxNumber
+at-most none v e = absurd (let z : _≡_ {A = ℕ} 0 1 = cc in omega arith)
+at-most (some w) v e =
+    ⊎-elim (λ t. let f : some v ≡ some w = rw t at e in let g : v ≡ w = cc in omega (arith, leb-true w maxNumber t))
+    (λ t. let f : _≡_ {A = Option ℕ} (some v) none = rw t at e in absurd (let z : _≡_ {A = ℕ} 0 1 = cc in omega arith))
+    (true-or-false (leb w maxNumber))
+
+pub number-small : (s : List ℕ) (v : ℕ) → some v ≡ number s → v ≤ maxNumber
+unfolding number
+number-small s v e =
+    ⊎-elim (λ t. at-most (valueAfter 0 s) v (rw t at e))
+    (λ t. let f : _≡_ {A = Option ℕ} (some v) none = rw t at e in absurd (let z : _≡_ {A = ℕ} 0 1 = cc in omega arith))
+    (true-or-false (leb 1 (length s) && leb (length s) maxDigits))
 
 -- i digits hold less than 10 ^ i
 pub ten-more : (v d i : ℕ) → v < 10 ^ i → d < 10 → v * 10 + d < 10 ^ (i + 1)

@@ -84,15 +84,18 @@ module _ (s start out : List ℕ) (from k n : ℕ) (g : Listing s start out from
   asked : length start - k ≡ suc (length start - (k + 1))
   asked = omega arith
 
-  part-fits : from + n ≤ length s
+  part-is : take (from + n - from) (drop from s) ≡ take n (drop from s)
+  part-is = let e : from + n - from ≡ n = omega arith in rw e
+
+  pub part-fits : from + n ≤ length s
   part-fits = omega (arith, firstOf-le (is comma) (drop from s), length-drop from s, g .inside)
 
   -- the next part is no number
-  pub listing-bad : none ≡ number (take n (drop from s)) → none ≡ list (length start) s
+  pub listing-bad : none ≡ number (take (from + n - from) (drop from s)) → none ≡ list (length start) s
   unfolding numbers
-  listing-bad e = sym (g .rest ∙ rw (asked, parts-first (drop from s), ← found, ← e))
+  listing-bad e = sym (g .rest ∙ rw (asked, parts-first (drop from s), ← found, ← part-is, ← e))
 
-  module _ (v : ℕ) (e : some v ≡ number (take n (drop from s))) where
+  module _ (v : ℕ) (e : some v ≡ number (take (from + n - from) (drop from s))) where
     stored : take k out ++ (v ∷ []) ≡ take (k + 1) (set out k v)
     stored = sym (rw add-one (take-suc-set out k v (omega (arith, g .same))))
 
@@ -106,10 +109,10 @@ module _ (s start out : List ℕ) (from k n : ℕ) (g : Listing s start out from
         ⊎-elim
         (λ j. let z : length start - (k + 1) ≡ 0 = omega arith in
         rw (eq-eqb (k + 1) (length (set out k v)) (omega (arith, g .same)))
-        (sym (g .rest ∙ rw (asked, z, parts-first t, ← found, no-comma, ← e, stored, take-all (k + 1) (set out k v) (omega (arith, g .same))))))
+        (sym (g .rest ∙ rw (asked, z, parts-first t, ← found, no-comma, ← part-is, ← e, stored, take-all (k + 1) (set out k v) (omega (arith, g .same))))))
         (λ j. let z : length start - (k + 1) ≡ suc (length start - (k + 1) - 1) = omega arith in
         rw (ne-eqb (k + 1) (length (set out k v)) (λ x. omega (arith, g .same)))
-        (sym (g .rest ∙ rw (asked, z, parts-first t, ← found, no-comma, ← e))))
+        (sym (g .rest ∙ rw (asked, z, parts-first t, ← found, no-comma, ← part-is, ← e))))
         (le-or-lt (length start) (k + 1))
 
     -- a comma follows it
@@ -124,5 +127,5 @@ module _ (s start out : List ℕ) (from k n : ℕ) (g : Listing s start out from
           inside = omega arith;
           few = omega arith;
           same = length-set out k v ∙ g .same;
-          rest = g .rest ∙ rw (asked, parts-first t, ← found, a-comma, ← e, d, ← stored) (following-more (take k out) v _);
+          rest = g .rest ∙ rw (asked, parts-first t, ← found, a-comma, ← part-is, ← e, d, ← stored) (following-more (take k out) v _);
         }

@@ -1,115 +1,123 @@
+-- `list_in` reads part by part: the invariant is `Listing`, and each return is a law of it.
+use borrow.Author.Needs.{needs}
+use native.Mathlib.Omega.{arith}
+use mathlib.Core.Path.{_≡_, sym, ap, _∙_}
+use Prim.Native.Nat.{_+_, _-_, _≤_, _<_}
+use lib.ListN.{length, take, drop, length-drop, length-set}
+use lib.Seq.{take-all}
+use Rattle.basics.specs.Lists.{firstOf}
+use Rattle.survey_text.specs.Bytes.{comma}
+use Rattle.survey_text.specs.Format.{is}
+use Rattle.survey_text.proofs.Digits.{number-small}
+use Rattle.survey_text.proofs.Parts.{Listing, listing-none, listing-full, part-fits, listing-bad, listing-last, listing-more}
 use Rattle.survey_text.proofs.number.list_in.Statement.{statement}
 use Rattle.survey_text.proofs.number.list_in.Tie as tie
-use Rattle.survey_text.proofs.number.list_in.Reads as reads
-use Rattle.survey_text.proofs.number.list_in.Lts as lts
-use Rattle.survey_text.proofs.line.find.Reads as find-reads
-use Rattle.survey_text.proofs.number.number_in.Reads as number-in-reads
 
 abbrev Inv-loop : tie.InvT-loop
-Inv-loop s out₀ from₀ k₀ out from k = ?
+Inv-loop s out₀ from₀ k₀ out from k = Listing s out₀ out from k
 
 abbrev μ-loop : tie.MeasureT-loop
-μ-loop s out₀ from₀ k₀ out from k = ?
+μ-loop s out₀ from₀ k₀ out from k = length out₀ - k
 
--- src/number.rt:61:5
 loop-holds : tie.Need-loop-holds Inv-loop μ-loop
-loop-holds c = ?
+loop-holds c = listing-none _ _
 
--- src/number.rt:62:37
 sub-find : tie.Need-sub-find Inv-loop μ-loop
-sub-find c = ?
+sub-find c = search needs
 
--- src/number.rt:62:37
 part-find-start : tie.Need-part-find-start Inv-loop μ-loop
-part-find-start c = ?
+part-find-start c = search needs
 
--- src/number.rt:62:37
 part-find-end : tie.Need-part-find-end Inv-loop μ-loop
-part-find-end c = ?
+part-find-end c = search needs
 
--- src/number.rt:62:26
 find-requires : tie.Need-find-requires Inv-loop μ-loop
-find-requires c κs = ?
+find-requires c κs = search needs
 
--- src/number.rt:62:19
+-- a number more is asked for
+room : (c : tie.In-loop Inv-loop μ-loop) → c .before .loop .k < length (c .before .before .before .before .args .out .now)
+room c = omega (arith, c .before .loop .inv .same, c .loop-test)
+
+-- the comma that was found is the first of what is left
+found : (c : tie.After-find Inv-loop μ-loop) → c .find .result ≡ firstOf (is comma) (drop (c .before .before .before .loop .from) (c .before .before .before .before .before .before .args .s .now))
+found c = let l = c .before .before .before in
+    let s = l .before .before .before .args .s .now in
+    c .find .ensures ∙ ap (firstOf (is comma)) (take-all (length s - l .loop .from) (drop (l .loop .from) s) (simp length-drop (omega arith)))
+
+fits : (c : tie.After-find Inv-loop μ-loop) → c .before .before .before .loop .from + c .find .result ≤ length (c .before .before .before .before .before .before .args .s .now)
+fits c = let l = c .before .before .before in part-fits _ _ _ _ _ _ (l .loop .inv) (room (c .before .before)) (found c)
+
 add-end : tie.Need-add-end Inv-loop μ-loop
-add-end c = ?
+add-end c = omega (arith, fits c)
 
--- src/number.rt:63:29
 sub-number-in : tie.Need-sub-number-in Inv-loop μ-loop
-sub-number-in c = ?
+sub-number-in c = search needs
 
--- src/number.rt:63:29
 part-number-in-start : tie.Need-part-number-in-start Inv-loop μ-loop
-part-number-in-start c = ?
+part-number-in-start c = search needs
 
--- src/number.rt:63:29
 part-number-in-end : tie.Need-part-number-in-end Inv-loop μ-loop
-part-number-in-end c = ?
+part-number-in-end c = omega (arith, fits c)
 
--- src/number.rt:63:13
 number-in-requires : tie.Need-number-in-requires Inv-loop μ-loop
-number-in-requires c κs = ?
+number-in-requires c κs = search needs
 
--- src/number.rt:64:24
 enum-known-got : tie.Need-enum-known-got Inv-loop μ-loop
-enum-known-got c = ?
+enum-known-got c = search needs
 
--- src/number.rt:65:13
 enum-told : tie.Need-enum-told Inv-loop μ-loop
-enum-told c = ?
+enum-told c = search needs
 
--- src/number.rt:65:13
 same-length : tie.Need-same-length Inv-loop μ-loop
-same-length c = ?
+same-length c = c .before .before .before .before .before .before .before .loop .inv .same
 
--- src/number.rt:65:13
 returns : tie.Need-returns Inv-loop μ-loop
-returns c = ?
+returns c = let f = c .before .before .before .before in
+    let l = f .before .before .before in
+    listing-bad _ _ _ _ _ _ (l .loop .inv) (room (f .before .before)) (found f) (rw (c .enum-told .given .1) at (c .before .before .number-in .ensures))
 
--- src/number.rt:67:18
 cast-out : tie.Need-cast-out Inv-loop μ-loop
-cast-out c = ?
+cast-out c = let e = rw (c .before .got .given .1) at (c .before .before .before .number-in .ensures) in
+    omega (arith, number-small _ _ e)
 
--- src/number.rt:67:9
 mul-out : tie.Need-mul-out Inv-loop μ-loop
-mul-out c = ?
+mul-out c = search needs
 
--- src/number.rt:67:9
 slice-write-out : tie.Need-slice-write-out Inv-loop μ-loop
-slice-write-out c = ?
+slice-write-out c = search needs
 
--- src/number.rt:68:9
 add-k : tie.Need-add-k Inv-loop μ-loop
-add-k c = ?
+add-k c = search needs
 
--- src/number.rt:70:13
 same-length-2 : tie.Need-same-length-2 Inv-loop μ-loop
-same-length-2 c = ?
+same-length-2 c = let l = c .before .before .before .before .before .before .before .before .before in simp length-set (l .loop .inv .same)
 
--- src/number.rt:70:13
 returns-2 : tie.Need-returns-2 Inv-loop μ-loop
-returns-2 c = ?
+returns-2 c = let g = c .before .before in
+    let f = g .before .before .before .before in
+    let l = f .before .before .before in
+    listing-last _ _ _ _ _ _ (l .loop .inv) (room (f .before .before)) (found f) _
+    (rw (g .got .given .1) at (g .before .before .number-in .ensures)) (c .if1 .taken)
 
--- src/number.rt:72:16
 add-from : tie.Need-add-from Inv-loop μ-loop
-add-from c = ?
+add-from c = search needs
 
--- src/number.rt:61:5
 loop-less : tie.Need-loop-less Inv-loop μ-loop
-loop-less c = ?
+loop-less c = let l = c .before .before .before .before .before .before .before .before in omega (arith, room l)
 
--- src/number.rt:61:5
 loop-again : tie.Need-loop-again Inv-loop μ-loop
-loop-again c = ?
+loop-again c = let g = c .before .before in
+    let f = g .before .before .before .before in
+    let l = f .before .before .before in
+    listing-more _ _ _ _ _ _ (l .loop .inv) (room (f .before .before)) (found f) _
+    (rw (g .got .given .1) at (g .before .before .number-in .ensures)) (c .if1 .left)
 
--- src/number.rt:56:1
 same-length-3 : tie.Need-same-length-3 Inv-loop μ-loop
-same-length-3 c = ?
+same-length-3 c = c .before .loop .inv .same
 
--- src/number.rt:56:1
 returns-3 : tie.Need-returns-3 Inv-loop μ-loop
-returns-3 c = ?
+returns-3 c = let l = c .before .loop in
+    listing-full _ _ _ _ _ (l .inv) (omega (arith, l .inv .same, c .loop-test))
 
 pub list-in-spec : {M : Type 1} → statement M
 list-in-spec =
