@@ -20,6 +20,8 @@ use Rattle.survey_text.specs.declared.reading.SizeLines.{SizeLines}
 use Rattle.survey_text.specs.declared.reading.SizeLines.the-variants.{Size, Refused as NoSize}
 use Rattle.survey_text.specs.declared.reading.SettingLines.{SettingLines}
 use Rattle.survey_text.specs.declared.reading.SettingLines.the-variants.{Given, Bad as NotGiven}
+use Rattle.survey_text.specs.declared.reading.RowLines.{RowLines}
+use Rattle.survey_text.specs.declared.reading.RowLines.the-variants.{Next as Rows, Bad as NoRows}
 use Rattle.survey_text.specs.declared.reading.PlateLines.{PlateLines}
 use Rattle.survey_text.specs.declared.reading.PlateLines.the-variants.{Filled, Bad as NotFilled}
 use Rattle.survey_text.specs.declared.reading.Reading.{Reading}
@@ -53,10 +55,10 @@ abbrev pub numberTold : List ℕ → ℕ → NumberLine → Verdict (ℕ × Rest
 numberTold text line (IsLine v next) = accepted (v, restFrom text next)
 numberTold text line NoNumber = refused 13 line
 
--- lines whose value is known otherwise, as from a lent buffer
-abbrev pub passedTold : {A : Type 0} → List ℕ → A → Passed → Verdict (A × Rest)
-passedTold text a (Next next) = accepted (a, restFrom text next)
-passedTold text a (NotPassed line) = refused 13 line
+-- a line whose value is known otherwise, as from a lent buffer
+abbrev pub passedTold : {A : Type 0} → List ℕ → ℕ → A → Passed → Verdict (A × Rest)
+passedTold text line a (Next next) = accepted (a, restFrom text next)
+passedTold text line a NotPassed = refused 13 line
 
 abbrev pub sizeTold : List ℕ → SizeLines → Verdict ((ℕ × ℕ) × Rest)
 sizeTold text (Size W H next) = accepted ((W, H), restFrom text next)
@@ -65,6 +67,11 @@ sizeTold text (NoSize number place) = refused number place
 abbrev pub settingTold : List ℕ → SettingLines → Verdict ((Setting × ℕ) × Rest)
 settingTold text (Given setting place next) = accepted ((setting, place), restFrom text next)
 settingTold text (NotGiven line) = refused 13 line
+
+-- the lent buffer holds the rows
+abbrev pub rowsTold : List ℕ → List ℕ → RowLines → Verdict (List ℕ × Rest)
+rowsTold text values (Rows next) = accepted (values, restFrom text next)
+rowsTold text values (NoRows line) = refused 13 line
 
 -- the lent buffers hold the readings and the words
 abbrev pub plateTold : List ℕ → List ℕ → PlateLines → Verdict (List ℕ × List ℕ)

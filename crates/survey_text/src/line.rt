@@ -29,10 +29,10 @@ pub enum NumberLine {
     Bad,
 }
 
-// Lines without a number of their own, or the number of the first bad one.
+// A line whose value is known or is in a lent buffer.
 pub enum Passed {
     Next(Cursor),
-    Bad(usize),
+    Bad,
 }
 
 // How many bytes stand before the first b.
@@ -112,14 +112,14 @@ pub fn number_line(s: &[u8], name: &[u8], c: Cursor) -> NumberLine
 // The line at the cursor: its name and nothing more.
 pub fn bare_line(s: &[u8], name: &[u8], c: Cursor) -> Passed
     requires { ⌜ c .line < 65536 ⌝ }
-    ensures { λ r. ⌜ passedTold (now (s .entry)) tt r ≡ next (now (name .entry)) nothing (restFrom (now (s .entry)) c) ⌝ }
+    ensures { λ r. ⌜ passedTold (now (s .entry)) (c .line) tt r ≡ next (now (name .entry)) nothing (restFrom (now (s .entry)) c) ⌝ }
 {
     let found = value_at(s, name, c.at);
     let Value::Between { from, end } = found else {
-        return Passed::Bad(c.line);
+        return Passed::Bad;
     };
     if from < end {
-        return Passed::Bad(c.line);
+        return Passed::Bad;
     }
     Passed::Next(Cursor {
         at: end + 1,
@@ -130,14 +130,14 @@ pub fn bare_line(s: &[u8], name: &[u8], c: Cursor) -> Passed
 // The line at the cursor: its name, then as many numbers as out has places for.
 pub fn list_line(s: &[u8], name: &[u8], c: Cursor, out: &mut [u16]) -> Passed
     requires { ⌜ c .line < 65536 ⌝ }
-    ensures { λ r. ⌜ passedTold (now (s .entry)) (now (out .exit)) r ≡ next (now (name .entry)) (list (length (now (out .entry)))) (restFrom (now (s .entry)) c) ⌝ }
+    ensures { λ r. ⌜ passedTold (now (s .entry)) (c .line) (now (out .exit)) r ≡ next (now (name .entry)) (list (length (now (out .entry)))) (restFrom (now (s .entry)) c) ⌝ }
 {
     let found = value_at(s, name, c.at);
     let Value::Between { from, end } = found else {
-        return Passed::Bad(c.line);
+        return Passed::Bad;
     };
     if !list_in(&s[from..end], out) {
-        return Passed::Bad(c.line);
+        return Passed::Bad;
     }
     Passed::Next(Cursor {
         at: end + 1,

@@ -4,7 +4,7 @@ ghost use mathlib.Core.Path.{_≡_};
 ghost use Prim.Native.Nat.{_+_, _*_, _≤_, _<_};
 ghost use lib.ListN.{length};
 ghost use Rattle.survey_text.specs.Reading.{maxPlate, sizeLines, settingLines, rowLines, plateLines, reading};
-ghost use Rattle.survey_text.specs.Answers.{restFrom, passedTold, sizeTold, settingTold, plateTold, readingTold};
+ghost use Rattle.survey_text.specs.Answers.{restFrom, sizeTold, settingTold, rowsTold, plateTold, readingTold};
 use crate::line::Cursor;
 use crate::line::NumberLine;
 use crate::line::Passed;
@@ -39,6 +39,12 @@ pub enum SettingLines {
         place: usize,
         next: Cursor,
     },
+    Bad(usize),
+}
+
+// The rows are in the lent buffer, or this line is bad.
+pub enum RowLines {
+    Next(Cursor),
     Bad(usize),
 }
 
@@ -148,10 +154,10 @@ fn row_lines(
     height: usize,
     c: Cursor,
     out: &mut [u16],
-) -> Passed
+) -> RowLines
     requires { ⌜ length (now out) ≡ height * width ⌝ }
     requires { ⌜ c .line + height ≤ 65536 ⌝ }
-    ensures { λ r. ⌜ passedTold (now (s .entry)) (now (out .exit)) r ≡ rowLines (now (name .entry)) width height (restFrom (now (s .entry)) c) ⌝ }
+    ensures { λ r. ⌜ rowsTold (now (s .entry)) (now (out .exit)) r ≡ rowLines (now (name .entry)) width height (restFrom (now (s .entry)) c) ⌝ }
 {
     let mut here = c;
     let mut start = 0;
@@ -160,13 +166,13 @@ fn row_lines(
         let end = start + width;
         let got = list_line(s, name, here, &mut out[start..end]);
         let Passed::Next(next) = got else {
-            return Passed::Bad(here.line);
+            return RowLines::Bad(here.line);
         };
         here = next;
         start = end;
         i += 1;
     }
-    Passed::Next(here)
+    RowLines::Next(here)
 }
 
 // The readings, the correction words, and the end of the text.
@@ -185,12 +191,12 @@ fn plate_lines(
 {
     let rows = row_lines(s, b"row=", width, height, c, readings);
     match rows {
-        Passed::Bad(line) => PlateLines::Bad(line),
-        Passed::Next(middle) => {
+        RowLines::Bad(line) => PlateLines::Bad(line),
+        RowLines::Next(middle) => {
             let rows = row_lines(s, b"cor=", width, height, middle, words);
             match rows {
-                Passed::Bad(line) => PlateLines::Bad(line),
-                Passed::Next(last) => {
+                RowLines::Bad(line) => PlateLines::Bad(line),
+                RowLines::Next(last) => {
                     if last.at < s.len() {
                         return PlateLines::Bad(last.line);
                     }
