@@ -3,3 +3,4 @@ pub mod Names
 pub mod Lines
 pub mod NextLine
 pub mod Parts
+pub mod Rows

@@ -1,78 +1,80 @@
+-- `row_lines` reads line by line into the parts of the lent buffer: the invariant is `Rows`, and each return is a law of it.
+use borrow.Author.Needs.{needs}
+use native.Mathlib.Omega.{arith}
+use mathlib.Core.Path.{_≡_, _∙_}
+use Prim.Native.Nat.{_+_, _-_, _≤_, _<_}
+use lib.ListN.{length}
+use borrow.Rule.Slice.PartMut.{same-len-mid}
+use Rattle.survey_text.proofs.Rows.{Rows, rows-none, rows-end, row-room, rows-bad, rows-more}
 use Rattle.survey_text.proofs.reading.row_lines.Statement.{statement}
 use Rattle.survey_text.proofs.reading.row_lines.Tie as tie
-use Rattle.survey_text.proofs.reading.row_lines.Reads as reads
-use Rattle.survey_text.proofs.reading.row_lines.Lts as lts
-use Rattle.survey_text.proofs.line.list_line.Reads as list-line-reads
 
 abbrev Inv-loop : tie.InvT-loop
-Inv-loop s name width height out₀ here₀ start₀ i₀ out here start i = ?
+Inv-loop s name width height out₀ here₀ start₀ i₀ out here start i = Rows s name width height out₀ out here₀ here start i
 
 abbrev μ-loop : tie.MeasureT-loop
-μ-loop s name width height out₀ here₀ start₀ i₀ out here start i = ?
+μ-loop s name width height out₀ here₀ start₀ i₀ out here start i = height - i
 
--- src/reading.rt:165:5
 loop-holds : tie.Need-loop-holds Inv-loop μ-loop
-loop-holds c = ?
+loop-holds c = rows-none _ _ _ _ _ _
 
--- src/reading.rt:166:19
+-- the next row has room
+room : (c : tie.In-loop Inv-loop μ-loop) → c .before .loop .start + c .before .before .before .before .before .args .width ≤ length (c .before .loop .out)
+room c = row-room _ _ _ _ _ _ _ _ _ _ (c .before .loop .inv) (c .before .before .before .before .before .pre .0) (c .loop-test .taken)
+
 add-end : tie.Need-add-end Inv-loop μ-loop
-add-end c = ?
+add-end c = omega (arith, room c)
 
--- src/reading.rt:167:44
 mul-list-line : tie.Need-mul-list-line Inv-loop μ-loop
-mul-list-line c = ?
+mul-list-line c = omega (arith, room c)
 
--- src/reading.rt:167:44
 sub-list-line : tie.Need-sub-list-line Inv-loop μ-loop
-sub-list-line c = ?
+sub-list-line c = search needs
 
--- src/reading.rt:167:44
 part-list-line-start : tie.Need-part-list-line-start Inv-loop μ-loop
-part-list-line-start c = ?
+part-list-line-start c = search needs
 
--- src/reading.rt:167:44
 part-list-line-end : tie.Need-part-list-line-end Inv-loop μ-loop
-part-list-line-end c = ?
+part-list-line-end c = room c
 
--- src/reading.rt:167:13
 list-line-requires : tie.Need-list-line-requires Inv-loop μ-loop
-list-line-requires c κs = ?
+list-line-requires c κs = omega (arith, c .before .before .loop .inv .line, c .before .before .before .before .before .before .pre .1)
 
--- src/reading.rt:168:26
 enum-known-got : tie.Need-enum-known-got Inv-loop μ-loop
-enum-known-got c = ?
+enum-known-got c = search needs
 
--- src/reading.rt:169:13
 enum-told : tie.Need-enum-told Inv-loop μ-loop
-enum-told c = ?
+enum-told c = search needs
 
--- src/reading.rt:169:13
 same-length : tie.Need-same-length Inv-loop μ-loop
-same-length c = ?
+same-length c = let l = c .before .before .before .before in
+    same-len-mid _ _ (l .before .before .before .loop .out) _ (l .list-line .kept .1 .1 .1 .0) ∙ l .before .before .before .loop .inv .same
 
--- src/reading.rt:169:13
 returns : tie.Need-returns Inv-loop μ-loop
-returns c = ?
+returns c = let l = c .before .before .before .before in
+    let w = l .before .before in
+    let b = w .before .before .before .before .before in
+    rows-bad _ _ _ _ _ _ _ _ _ _ (w .before .loop .inv) (b .pre .0) (w .loop-test .taken) (rw (c .enum-told .given .1) at (l .list-line .ensures))
 
--- src/reading.rt:173:9
 add-i : tie.Need-add-i Inv-loop μ-loop
-add-i c = ?
+add-i c = search needs
 
--- src/reading.rt:165:5
 loop-less : tie.Need-loop-less Inv-loop μ-loop
-loop-less c = ?
+loop-less c = search needs
 
--- src/reading.rt:165:5
 loop-again : tie.Need-loop-again Inv-loop μ-loop
-loop-again c = ?
+loop-again c = let l = c .before .before .before .before .before in
+    let w = l .before .before in
+    let b = w .before .before .before .before .before in
+    rows-more _ _ _ _ _ _ _ _ _ _ (w .before .loop .inv) (b .pre .0) (w .loop-test .taken) (l .list-line .last .1 .1 .1 .0) _ (l .list-line .kept .1 .1 .1 .0)
+    (rw (c .before .got .given .1) at (l .list-line .ensures))
 
--- src/reading.rt:150:1
 same-length-2 : tie.Need-same-length-2 Inv-loop μ-loop
-same-length-2 c = ?
+same-length-2 c = c .before .loop .inv .same
 
--- src/reading.rt:150:1
 returns-2 : tie.Need-returns-2 Inv-loop μ-loop
-returns-2 c = ?
+returns-2 c = let b = c .before .before .before .before .before in
+    rows-end _ _ _ _ _ _ _ _ _ _ (c .before .loop .inv) (b .pre .0) (c .loop-test .left)
 
 pub row-lines-spec : {M : Type 1} → statement M
 row-lines-spec =
