@@ -25,7 +25,7 @@ module _ {A : Type 0} (name : List ℕ) (form : List ℕ → Option A) (l : Rest
 
 -- ---- the number of the line after it
 
-abbrev lineIn : {A : Type 0} → Verdict (A × Rest) → ℕ
+abbrev pub lineIn : {A : Type 0} → Verdict (A × Rest) → ℕ
 lineIn (accepted x) = x .1 .line
 lineIn (refused n p) = 0
 

@@ -6,13 +6,14 @@ use native.Mathlib.Nat.{mul-le-mul-right}
 use native.Mathlib.Omega.{arith}
 use lib.ListN.{length, take, drop, length-drop, length-append}
 use lib.Seq.{take-all, take-at, length-take-le}
+use borrow.Author.Tests.{lt-ltb, le-ltb}
 use borrow.Rule.Slice.PartMut.{putMid, same-len-mid}
-use Rattle.plate.specs.Refusals.{Verdict, Verdict.accepted, Verdict.refused}
+use Rattle.plate.specs.Refusals.{Verdict, Verdict.accepted, Verdict.refused, judged}
 use Rattle.survey_text.specs.Format.{list}
-use Rattle.survey_text.specs.Reading.{_>>=_, Rest, next, rowLines}
+use Rattle.survey_text.specs.Reading.{_>>=_, Rest, next, atEnd, rowLines}
 use Rattle.survey_text.specs.Answers.{restFrom}
 use Rattle.survey_text.specs.declared.line.Cursor.{Cursor}
-use Rattle.survey_text.proofs.NextLine.{next-line}
+use Rattle.survey_text.proofs.NextLine.{lineIn, next-line}
 
 -- these numbers, and then those of what follows
 abbrev pub onward : List ℕ → Verdict (List ℕ × Rest) → Verdict (List ℕ × Rest)
@@ -91,3 +92,33 @@ module _ (s name : List ℕ) (W H : ℕ) (before out : List ℕ) (c here : Curso
           line = omega (arith, g .line, next-line name (list W) (restFrom s here) (row, restFrom s there) f);
           rest = g .rest ∙ rw (asked, ← f, t) (onward-more (take start out) row _);
         }
+
+-- ---- the number of the line after the rows
+
+-- the rows after the first one, whatever they came to
+others-line : (h n : ℕ) (x row : List ℕ × Rest) (v : Verdict (List ℕ × Rest)) → ((y : List ℕ × Rest) → accepted y ≡ v → y .1 .line ≡ row .1 .line + h) → row .1 .line ≡ n + 1
+    → accepted x ≡ (v >>= λ w. accepted (row .0 ++ w .0, w .1)) → x .1 .line ≡ n + suc h
+others-line h n x row (refused m p) again k e = absurd (let z : _≡_ {A = ℕ} 0 1 = cc in omega arith)
+others-line h n x row (accepted w) again k e = let m : x .1 .line ≡ w .1 .line = ap lineIn e in omega (arith, again w refl)
+
+-- the first row, whatever it came to
+first-line : (name : List ℕ) (W h : ℕ) (l : Rest) (x : List ℕ × Rest) (v : Verdict (List ℕ × Rest)) → v ≡ next name (list W) l
+    → ((m : Rest) (y : List ℕ × Rest) → accepted y ≡ rowLines name W h m → y .1 .line ≡ m .line + h)
+    → accepted x ≡ (v >>= λ row. rowLines name W h (row .1) >>= λ w. accepted (row .0 ++ w .0, w .1)) → x .1 .line ≡ l .line + suc h
+first-line name W h l x (refused m p) q again e = absurd (let z : _≡_ {A = ℕ} 0 1 = cc in omega arith)
+first-line name W h l x (accepted row) q again e = others-line h (l .line) x row _ (again (row .1)) (next-line name (list W) l row q) e
+
+pub rows-line : (name : List ℕ) (W H : ℕ) (l : Rest) (x : List ℕ × Rest) → accepted x ≡ rowLines name W H l → x .1 .line ≡ l .line + H
+unfolding rowLines
+rows-line name W zero l x e = let m : x .1 .line ≡ l .line = ap lineIn e in omega arith
+rows-line name W (suc h) l x e = first-line name W h l x _ refl (rows-line name W h) e
+
+-- ---- the end of the text
+
+pub line-left : (s : List ℕ) (c : Cursor) → c .at < length s → atEnd (restFrom s c) ≡ refused 13 (c .line)
+unfolding atEnd judged
+line-left s c h = rw (lt-ltb 0 (length (drop (c .at) s)) (simp length-drop (omega arith)))
+
+pub text-ended : (s : List ℕ) (c : Cursor) → length s ≤ c .at → atEnd (restFrom s c) ≡ accepted tt
+unfolding atEnd judged
+text-ended s c h = rw (le-ltb 0 (length (drop (c .at) s)) (simp length-drop (omega arith)))
