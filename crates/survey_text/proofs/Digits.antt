@@ -21,7 +21,6 @@ unfolding isDigit
 digit-range b e =
     let t = and-both (leb 48 b) (leb b 57) (true-T _ e) in (leb-true 48 b (T-true _ (t .0)), leb-true b 57 (T-true _ (t .1)))
 
-
 module _ (s : List ℕ) (i v : ℕ) (walk : valueAfter 0 s ≡ valueAfter v (drop i s)) where
   pub valued-more : i < length s → isDigit (getD s i 0) ≡ true → valueAfter 0 s ≡ valueAfter (v * 10 + (getD s i 0 - zeroDigit)) (drop (i + 1) s)
   unfolding valueAfter

@@ -13,6 +13,7 @@ use Rattle.survey_text.specs.Format.{list}
 use Rattle.survey_text.specs.Reading.{_>>=_, Rest, next, atEnd, rowLines}
 use Rattle.survey_text.specs.Answers.{restFrom}
 use Rattle.survey_text.specs.declared.line.Cursor.{Cursor}
+use Rattle.survey_text.proofs.Verdicts.{steps-accepted}
 use Rattle.survey_text.proofs.NextLine.{lineIn, next-line}
 
 -- these numbers, and then those of what follows
@@ -95,23 +96,14 @@ module _ (s name : List ℕ) (W H : ℕ) (before out : List ℕ) (c here : Curso
 
 -- ---- the number of the line after the rows
 
--- the rows after the first one, whatever they came to
-others-line : (h n : ℕ) (x row : List ℕ × Rest) (v : Verdict (List ℕ × Rest)) → ((y : List ℕ × Rest) → accepted y ≡ v → y .1 .line ≡ row .1 .line + h) → row .1 .line ≡ n + 1
-    → accepted x ≡ (v >>= λ w. accepted (row .0 ++ w .0, w .1)) → x .1 .line ≡ n + suc h
-others-line h n x row (refused m p) again k e = absurd (let z : _≡_ {A = ℕ} 0 1 = cc in omega arith)
-others-line h n x row (accepted w) again k e = let m : x .1 .line ≡ w .1 .line = ap lineIn e in omega (arith, again w refl)
-
--- the first row, whatever it came to
-first-line : (name : List ℕ) (W h : ℕ) (l : Rest) (x : List ℕ × Rest) (v : Verdict (List ℕ × Rest)) → v ≡ next name (list W) l
-    → ((m : Rest) (y : List ℕ × Rest) → accepted y ≡ rowLines name W h m → y .1 .line ≡ m .line + h)
-    → accepted x ≡ (v >>= λ row. rowLines name W h (row .1) >>= λ w. accepted (row .0 ++ w .0, w .1)) → x .1 .line ≡ l .line + suc h
-first-line name W h l x (refused m p) q again e = absurd (let z : _≡_ {A = ℕ} 0 1 = cc in omega arith)
-first-line name W h l x (accepted row) q again e = others-line h (l .line) x row _ (again (row .1)) (next-line name (list W) l row q) e
-
 pub rows-line : (name : List ℕ) (W H : ℕ) (l : Rest) (x : List ℕ × Rest) → accepted x ≡ rowLines name W H l → x .1 .line ≡ l .line + H
 unfolding rowLines
 rows-line name W zero l x e = let m : x .1 .line ≡ l .line = ap lineIn e in omega arith
-rows-line name W (suc h) l x e = first-line name W h l x _ refl (rows-line name W h) e
+rows-line name W (suc h) l x e =
+    let r = steps-accepted (next name (list W) l) _ x e in
+    let q = steps-accepted (rowLines name W h (r .0 .1)) _ x (r .2) in
+    let m : x .1 .line ≡ q .0 .1 .line = ap lineIn (q .2) in
+    omega (arith, next-line name (list W) l (r .0) (r .1), rows-line name W h (r .0 .1) (q .0) (q .1))
 
 -- ---- the end of the text
 

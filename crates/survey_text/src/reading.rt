@@ -78,14 +78,22 @@ fn size_lines(s: &[u8]) -> SizeLines
         };
     };
     let got = number_line(s, b"width=", second);
-    let NumberLine::Is { value: width, next: third } = got else {
+    let NumberLine::Is {
+        value: width,
+        next: third,
+    } = got
+    else {
         return SizeLines::Refused {
             number: refusal::LINE,
             place: second.line,
         };
     };
     let got = number_line(s, b"height=", third);
-    let NumberLine::Is { value: height, next } = got else {
+    let NumberLine::Is {
+        value: height,
+        next,
+    } = got
+    else {
         return SizeLines::Refused {
             number: refusal::LINE,
             place: third.line,
@@ -115,19 +123,35 @@ fn setting_lines(s: &[u8], c: Cursor) -> SettingLines
     ensures { λ r. ⌜ settingTold (now (s .entry)) r ≡ settingLines (restFrom (now (s .entry)) c) ⌝ }
 {
     let got = number_line(s, b"length=", c);
-    let NumberLine::Is { value: length, next: c2 } = got else {
+    let NumberLine::Is {
+        value: length,
+        next: c2,
+    } = got
+    else {
         return SettingLines::Bad(c.line);
     };
     let got = number_line(s, b"gaps=", c2);
-    let NumberLine::Is { value: gaps, next: c3 } = got else {
+    let NumberLine::Is {
+        value: gaps,
+        next: c3,
+    } = got
+    else {
         return SettingLines::Bad(c2.line);
     };
     let got = number_line(s, b"ways=", c3);
-    let NumberLine::Is { value: ways, next: c4 } = got else {
+    let NumberLine::Is {
+        value: ways,
+        next: c4,
+    } = got
+    else {
         return SettingLines::Bad(c3.line);
     };
     let got = number_line(s, b"mode=", c4);
-    let NumberLine::Is { value: mode, next: c5 } = got else {
+    let NumberLine::Is {
+        value: mode,
+        next: c5,
+    } = got
+    else {
         return SettingLines::Bad(c4.line);
     };
     let got = number_line(s, b"at=", c5);
@@ -243,7 +267,14 @@ pub fn read(s: &[u8], readings: &mut [u16], words: &mut [u16]) -> Reading
                     next,
                 } => {
                     let n = width * height;
-                    let filled = plate_lines(s, width, height, next, &mut readings[..n], &mut words[..n]);
+                    let filled = plate_lines(
+                        s,
+                        width,
+                        height,
+                        next,
+                        &mut readings[..n],
+                        &mut words[..n],
+                    );
                     match filled {
                         PlateLines::Bad(line) => Reading::Refused {
                             number: refusal::LINE,

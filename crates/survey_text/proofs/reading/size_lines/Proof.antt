@@ -96,7 +96,6 @@ lines-read : (c : tie.After-got2) → let g = c .before .before .before .before 
 unfolding sizeLines
 lines-read c = let g = c .before .before .before .before .before in rw (← first (g .before .before .before .before .before), ← second g, ← third c)
 
-
 bad-size-requires : tie.Need-bad-size-requires
 bad-size-requires c κs = search needs
 
