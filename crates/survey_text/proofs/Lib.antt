@@ -6,3 +6,5 @@ pub mod Parts
 pub mod Verdicts
 pub mod Rows
 pub mod Heads
+pub mod Written
+pub mod Decimals

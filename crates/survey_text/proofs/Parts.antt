@@ -127,5 +127,5 @@ module _ (s start out : List ℕ) (from k n : ℕ) (g : Listing s start out from
           inside = omega arith;
           few = omega arith;
           same = length-set out k v ∙ g .same;
-          rest = g .rest ∙ rw (asked, parts-first t, ← found, a-comma, ← part-is, ← e, d, ← stored) (following-more (take k out) v _);
+          rest = g .rest ∙ rw (asked, parts-first t, ← found, a-comma, ← part-is, ← e, d, ← stored) (following-more (take k out) v (numbers (length start - (k + 1)) (parts (drop (from + n + 1) s))));
         }

@@ -91,7 +91,7 @@ module _ (s name : List ℕ) (W H : ℕ) (before out : List ℕ) (c here : Curso
           place = omega (arith, g .place);
           same = same-len-mid start (start + W - start) out row l ∙ g .same;
           line = omega (arith, g .line, next-line name (list W) (restFrom s here) (row, restFrom s there) f);
-          rest = g .rest ∙ rw (asked, ← f, t) (onward-more (take start out) row _);
+          rest = g .rest ∙ rw (asked, ← f, t) (onward-more (take start out) row (rowLines name W (H - (i + 1)) (restFrom s there)));
         }
 
 -- ---- the number of the line after the rows

@@ -48,7 +48,10 @@ enum-told c = search needs
 
 same-length : tie.Need-same-length Inv-loop μ-loop
 same-length c = let l = c .before .before .before .before in
-    same-len-mid _ _ (l .before .before .before .loop .out) _ (l .list-line .kept .1 .1 .1 .0) ∙ l .before .before .before .loop .inv .same
+    let w = l .before .before in
+    let at = w .before .loop .start in
+    let W = w .before .before .before .before .before .args .width in
+    same-len-mid at (at + W - at) (w .before .loop .out) (l .list-line .last .1 .1 .1 .0) (l .list-line .kept .1 .1 .1 .0) ∙ w .before .loop .inv .same
 
 returns : tie.Need-returns Inv-loop μ-loop
 returns c = let l = c .before .before .before .before in
