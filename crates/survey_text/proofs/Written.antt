@@ -24,36 +24,35 @@ placed-length : (out : List ℕ) (at : ℕ) (text : List ℕ) → Room text at o
 unfolding placed
 placed-length out at text h = simp (length-append, length-drop) (omega (arith, length-take-le at out (omega arith)))
 
-pub written-length : (text : List ℕ) (at : ℕ) (out after : List ℕ) (next : ℕ) → Room text at out → Written text at out after next → length after ≡ length out
-written-length text at out after next h w = ap length (w .holds) ∙ placed-length out at text h
+pub written-length : {text : List ℕ} {at : ℕ} {out after : List ℕ} {next : ℕ} → Room text at out → Written text at out after next → length after ≡ length out
+written-length {text} {at} {out} room w = ap length (w .holds) ∙ placed-length out at text room
 
--- ---- two writes
+-- ---- two writes in a row
 
-module _ (xs ys : List ℕ) (at : ℕ) (out mid : List ℕ) (m : ℕ) (room : Room (xs ++ ys) at out) where
-  pub room-first : Room xs at out
-  room-first = omega (arith, length-append xs ys)
+pub room-first : (xs ys : List ℕ) (at : ℕ) (out : List ℕ) → Room (xs ++ ys) at out → Room xs at out
+room-first xs ys at out room = omega (arith, length-append xs ys)
 
-  module _ (w : Written xs at out mid m) where
-    pub room-then : Room ys m mid
-    room-then = omega (arith, length-append xs ys, w .behind, written-length xs at out mid m room-first w)
+pub room-then : {xs : List ℕ} {at : ℕ} {out mid : List ℕ} {m : ℕ} (ys : List ℕ) → Room (xs ++ ys) at out → Written xs at out mid m → Room ys m mid
+room-then {xs} {at} {out} {mid} {m} ys room w =
+    omega (arith, length-append xs ys, w .behind, written-length (room-first xs ys at out room) w)
 
-    placed-then : placed mid m ys ≡ placed out at (xs ++ ys)
-    unfolding placed
-    placed-then =
-        let t = take at out in
-        let d = drop (at + length xs) out in
-        let n : length (t ++ xs) ≡ m =
-        length-append t xs ∙ (let k = length-take-le at out (omega (arith, room-first)) in omega (arith, w .behind)) in
-        let front : take m ((t ++ xs) ++ d) ≡ t ++ xs = take-at (t ++ xs) d m n in
-        let back : drop (m + length ys) ((t ++ xs) ++ d) ≡ drop (at + length xs + length ys) out =
-        ap (λ (k : ℕ). drop (k + length ys) ((t ++ xs) ++ d)) (sym n) ∙ drop-append-add (t ++ xs) d (length ys) ∙ drop-drop (length ys) (at + length xs) out in
-        rw (w .holds, front, back, length-append xs ys, ← add-assoc at (length xs) (length ys), append-assoc t xs ys)
+placed-then : (xs ys : List ℕ) (at : ℕ) (out : List ℕ) → Room xs at out → placed (placed out at xs) (at + length xs) ys ≡ placed out at (xs ++ ys)
+unfolding placed
+placed-then xs ys at out room =
+    let t = take at out in
+    let d = drop (at + length xs) out in
+    let n : length (t ++ xs) ≡ at + length xs = length-append t xs ∙ (let k = length-take-le at out (omega arith) in omega arith) in
+    let front : take (at + length xs) ((t ++ xs) ++ d) ≡ t ++ xs = take-at (t ++ xs) d (at + length xs) n in
+    let back : drop (at + length xs + length ys) ((t ++ xs) ++ d) ≡ drop (at + length xs + length ys) out =
+    ap (λ (k : ℕ). drop (k + length ys) ((t ++ xs) ++ d)) (sym n) ∙ drop-append-add (t ++ xs) d (length ys) ∙ drop-drop (length ys) (at + length xs) out in
+    rw (front, back, length-append xs ys, ← add-assoc at (length xs) (length ys), append-assoc t xs ys)
 
-    pub written-then : (after : List ℕ) (next : ℕ) → Written ys m mid after next → Written (xs ++ ys) at out after next
-    written-then after next v = record {
-      behind = omega (arith, v .behind, w .behind, length-append xs ys);
-      holds = v .holds ∙ placed-then;
-    }
+pub written-then : {xs ys : List ℕ} {at : ℕ} {out mid after : List ℕ} {m next : ℕ} → Room (xs ++ ys) at out → Written xs at out mid m
+    → Written ys m mid after next → Written (xs ++ ys) at out after next
+written-then {xs} {ys} {at} {out} room w v = record {
+  behind = omega (arith, v .behind, w .behind, length-append xs ys);
+  holds = v .holds ∙ rw (w .holds, w .behind) (placed-then xs ys at out (room-first xs ys at out room));
+}
 
 -- ---- a write that goes part by part
 
@@ -71,7 +70,7 @@ module _ {whole rest : List ℕ} {at : ℕ} {out now : List ℕ} {next : ℕ} (g
   said-room = rw (g .joined) room
 
   pub writing-length : length now ≡ length out
-  writing-length = written-length (g .said) at out now next (room-first (g .said) rest at out now next said-room) (g .written)
+  writing-length = written-length (room-first (g .said) rest at out said-room) (g .written)
 
   -- all was written
   pub writing-end : rest ≡ [] → Written whole at out now next
@@ -82,14 +81,14 @@ module _ {whole rest : List ℕ} {at : ℕ} {out now : List ℕ} {next : ℕ} (g
     whole-is = append-assoc (g .said) part more ∙ (let h = g .joined in rw e at h)
 
     part-room : Room (g .said ++ part) at out
-    part-room = room-first (g .said ++ part) more at out now next (rw whole-is room)
+    part-room = room-first (g .said ++ part) more at out (rw whole-is room)
 
     pub writing-room : Room part next now
-    writing-room = room-then (g .said) part at out now next part-room (g .written)
+    writing-room = room-then part part-room (g .written)
 
     pub writing-more : (after : List ℕ) (m : ℕ) → Written part next now after m → Writing whole more at out after m
     writing-more after m v = record {
       said = g .said ++ part;
-      written = written-then (g .said) part at out now next part-room (g .written) after m v;
+      written = written-then part-room (g .written) v;
       joined = whole-is;
     }
