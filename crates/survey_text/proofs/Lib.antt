@@ -8,3 +8,4 @@ pub mod Rows
 pub mod Heads
 pub mod Written
 pub mod Decimals
+pub mod SignedDecimals

@@ -1,6 +1,8 @@
 // Writing numbers and lists of numbers into a lent buffer. Each writer answers the place behind what it
 // wrote, so that two writes in a row are one.
+ghost use mathlib.Core.Path.{_≡_};
 ghost use mathlib.Core.List.{[], _∷_, map};
+ghost use lib.IntN.{natAbs};
 ghost use Rattle.survey_text.specs.Printing.{decimal, signedDecimal, parted};
 ghost use Rattle.survey_text.specs.Buffers.{Room, Written};
 
@@ -36,15 +38,25 @@ pub fn put_number(n: usize, out: &mut [u8], at: usize) -> usize
     put(b'0' + (n % 10) as u8, out, next)
 }
 
+// How far a level lies from zero; in 32 bits, since −(−32,768) needs 17.
+fn magnitude(level: i16) -> usize
+    ensures { λ r. ⌜ r ≡ natAbs level ⌝ }
+{
+    if level < 0 {
+        return (-(level as i32)) as usize;
+    }
+    level as usize
+}
+
 pub fn put_level(level: i16, out: &mut [u8], at: usize) -> usize
     requires { ⌜ Room (signedDecimal level) at (now out) ⌝ }
     ensures { λ r. ⌜ Written (signedDecimal level) at (now (out .entry)) (now (out .exit)) r ⌝ }
 {
     if level < 0 {
         let next = put(b'-', out, at);
-        return put_number((-(level as i32)) as usize, out, next);
+        return put_number(magnitude(level), out, next);
     }
-    put_number(level as usize, out, at)
+    put_number(magnitude(level), out, at)
 }
 
 // Levels parted by commas.
