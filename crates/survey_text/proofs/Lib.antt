@@ -9,3 +9,4 @@ pub mod Heads
 pub mod Written
 pub mod Decimals
 pub mod SignedDecimals
+pub mod Parted
