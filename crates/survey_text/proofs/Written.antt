@@ -54,6 +54,26 @@ written-then {xs} {ys} {at} {out} room w v = record {
   holds = v .holds ∙ rw (w .holds, w .behind) (placed-then xs ys at out (room-first xs ys at out room));
 }
 
+-- ---- three writes in a row
+
+module _ (xs ys zs : List ℕ) (at : ℕ) (out : List ℕ) (room : Room (xs ++ ys ++ zs) at out) where
+  two-room : Room (xs ++ ys) at out
+  two-room = room-first (xs ++ ys) zs at out room
+
+  pub room-one : Room xs at out
+  room-one = room-first xs ys at out two-room
+
+  module _ {o : List ℕ} {m : ℕ} (w : Written xs at out o m) where
+    pub room-two : Room ys m o
+    room-two = room-then ys two-room w
+
+    module _ {p : List ℕ} {n : ℕ} (v : Written ys m o p n) where
+      pub room-three : Room zs n p
+      room-three = room-then zs room (written-then two-room w v)
+
+      pub written-three : {q : List ℕ} {r : ℕ} → Written zs n p q r → Written (xs ++ ys ++ zs) at out q r
+      written-three u = written-then room (written-then two-room w v) u
+
 -- ---- a write that goes part by part
 
 -- what was written so far, with the rest that is to come, is the whole

@@ -1,35 +1,45 @@
+-- `out_line` writes a row's line: three writes in a row are one.
 use borrow.Author.Needs.{needs}
+use mathlib.Core.List.{[], _∷_, _++_, map}
+use Rattle.survey_text.specs.Bytes.{bytes, newline}
+use Rattle.survey_text.specs.Printing.{signedDecimal, parted, line, outLine}
+use Rattle.survey_text.specs.Buffers.{Room}
+use Rattle.survey_text.proofs.Written.{room-one, room-two, room-three, written-three}
 use Rattle.survey_text.proofs.printing.out_line.Statement.{statement}
 use Rattle.survey_text.proofs.printing.out_line.Tie as tie
-use Rattle.survey_text.proofs.printing.out_line.Reads as reads
-use Rattle.survey_text.proofs.printing.out_line.Lts as lts
-use Rattle.survey_text.proofs.writing.put.Reads as put-reads
-use Rattle.survey_text.proofs.writing.put_levels.Reads as put-levels-reads
-use Rattle.survey_text.proofs.writing.put_text.Reads as put-text-reads
 
--- src/printing.rt:28:25
+-- the room for the three parts
+room : (b : tie.Start) → Room (bytes "out=" ++ parted (map signedDecimal (b .args .row .now)) ++ (newline ∷ [])) (b .args .at) (b .args .out .now)
+unfolding outLine line
+room b = b .pre
+
 slice-aggregate-put-text : tie.Need-slice-aggregate-put-text
 slice-aggregate-put-text c = search needs
 
--- src/printing.rt:28:9
 put-text-requires : tie.Need-put-text-requires
-put-text-requires c κs = ?
+put-text-requires c κs = let b = c .before .before .before in room-one (bytes "out=") (parted (map signedDecimal (b .args .row .now))) (newline ∷ []) (b .args .at) (b .args .out .now) (room b)
 
--- src/printing.rt:29:9
 put-levels-requires : tie.Need-put-levels-requires
-put-levels-requires c κs = ?
+put-levels-requires c κs = let t = c .before .before .before in
+    let b = t .before .before .before .before in
+    room-two (bytes "out=") (parted (map signedDecimal (b .args .row .now))) (newline ∷ []) (b .args .at) (b .args .out .now) (room b) (t .put-text .ensures)
 
--- src/printing.rt:30:5
 put-requires : tie.Need-put-requires
-put-requires c κs = ?
+put-requires c κs = let v = c .before .before .before in
+    let t = v .before .before .before .before in
+    let b = t .before .before .before .before in
+    room-three (bytes "out=") (parted (map signedDecimal (b .args .row .now))) (newline ∷ []) (b .args .at) (b .args .out .now) (room b) (t .put-text .ensures) (v .put-levels .ensures)
 
--- src/printing.rt:24:1
 same-length : tie.Need-same-length
 same-length c = search needs
 
--- src/printing.rt:24:1
 returns : tie.Need-returns
-returns c = ?
+unfolding outLine line
+returns c = let p = c .before .before in
+    let v = p .before .before .before .before in
+    let t = v .before .before .before .before in
+    let b = t .before .before .before .before in
+    written-three (bytes "out=") (parted (map signedDecimal (b .args .row .now))) (newline ∷ []) (b .args .at) (b .args .out .now) (room b) (t .put-text .ensures) (v .put-levels .ensures) (p .put .ensures)
 
 pub out-line-spec : {M : Type 1} → statement M
 out-line-spec =
