@@ -10,3 +10,4 @@ pub mod Written
 pub mod Decimals
 pub mod SignedDecimals
 pub mod Parted
+pub mod OutLines

@@ -1,62 +1,90 @@
+-- `out_lines` writes row by row: the invariant says that the lines of the rows from the i-th on are still to come.
+use borrow.Author.Needs.{needs}
+use native.Mathlib.Omega.{arith}
+use mathlib.Core.Path.{_≡_}
+use mathlib.Core.List.{List, _++_, flatMap}
+use Prim.Native.Nat.{ℕ, _+_, _-_, _*_, _≤_, _<_}
+use lib.ListN.{length, take, drop}
+use Rattle.survey_text.specs.Printing.{rows, outLine}
+use Rattle.survey_text.specs.Buffers.{Room}
+use Rattle.survey_text.proofs.Rows.{row-fits}
+use Rattle.survey_text.proofs.OutLines.{linesFrom, lines-all, lines-more, lines-end}
+use Rattle.survey_text.proofs.Written.{Writing, writing-none, writing-length, writing-end, writing-room, writing-more}
 use Rattle.survey_text.proofs.printing.out_lines.Statement.{statement}
 use Rattle.survey_text.proofs.printing.out_lines.Tie as tie
-use Rattle.survey_text.proofs.printing.out_lines.Reads as reads
-use Rattle.survey_text.proofs.printing.out_lines.Lts as lts
-use Rattle.survey_text.proofs.printing.out_line.Reads as out-line-reads
 
 abbrev Inv-loop : tie.InvT-loop
-Inv-loop width height levels out₀ at next₀ start₀ i₀ out next start i = ?
+Inv-loop width height levels out₀ at next₀ start₀ i₀ out next start i =
+    (i ≤ height) × (start ≡ i * width) × Writing (flatMap outLine (rows width height levels)) (linesFrom width height levels i start) at out₀ out next
 
 abbrev μ-loop : tie.MeasureT-loop
-μ-loop width height levels out₀ at next₀ start₀ i₀ out next start i = ?
+μ-loop width height levels out₀ at next₀ start₀ i₀ out next start i = height - i
 
--- src/printing.rt:42:5
 loop-holds : tie.Need-loop-holds Inv-loop μ-loop
-loop-holds c = ?
+loop-holds c = let b = c .before in
+    (search needs, search needs, rw (← lines-all (b .args .width) (b .args .height) (b .args .levels .now)) (writing-none _ _ _))
 
--- src/printing.rt:43:19
+-- the next row lies on the plate
+fits : (c : tie.In-loop Inv-loop μ-loop) → c .before .loop .start + c .before .before .before .args .width ≤ length (c .before .before .before .args .levels .now)
+fits c = let l = c .before in
+    let b = l .before .before in
+    omega (arith, l .loop .inv .1, b .pre .0, row-fits (b .args .width) (b .args .height) (l .loop .i) (c .loop-test .taken))
+
 add-end : tie.Need-add-end Inv-loop μ-loop
-add-end c = ?
+add-end c = omega (arith, fits c)
 
--- src/printing.rt:44:25
 mul-out-line : tie.Need-mul-out-line Inv-loop μ-loop
-mul-out-line c = ?
+mul-out-line c = omega (arith, fits c)
 
--- src/printing.rt:44:25
 sub-out-line : tie.Need-sub-out-line Inv-loop μ-loop
-sub-out-line c = ?
+sub-out-line c = search needs
 
--- src/printing.rt:44:25
 part-out-line-start : tie.Need-part-out-line-start Inv-loop μ-loop
-part-out-line-start c = ?
+part-out-line-start c = search needs
 
--- src/printing.rt:44:25
 part-out-line-end : tie.Need-part-out-line-end Inv-loop μ-loop
-part-out-line-end c = ?
+part-out-line-end c = fits c
 
--- src/printing.rt:44:9
+-- the next row's line, and those behind it
+abbrev row : tie.In-loop Inv-loop μ-loop → List ℕ
+row c = let l = c .before in
+    let b = l .before .before in
+    outLine (take (l .loop .start + b .args .width - l .loop .start) (drop (l .loop .start) (b .args .levels .now)))
+
+abbrev more : tie.In-loop Inv-loop μ-loop → List ℕ
+more c = let l = c .before in
+    let b = l .before .before in
+    linesFrom (b .args .width) (b .args .height) (b .args .levels .now) (l .loop .i + 1) (l .loop .start + b .args .width)
+
+ahead : (c : tie.In-loop Inv-loop μ-loop) → let l = c .before in
+    let b = l .before .before in
+    linesFrom (b .args .width) (b .args .height) (b .args .levels .now) (l .loop .i) (l .loop .start) ≡ row c ++ more c
+ahead c = lines-more _ _ _ _ _ (c .loop-test .taken)
+
 out-line-requires : tie.Need-out-line-requires Inv-loop μ-loop
-out-line-requires c κs = ?
+out-line-requires c κs = let w = c .before .before in
+    writing-room (w .before .loop .inv .2) (w .before .before .before .pre .1) (row w) (more w) (ahead w)
 
--- src/printing.rt:46:9
 add-i : tie.Need-add-i Inv-loop μ-loop
-add-i c = ?
+add-i c = search needs
 
--- src/printing.rt:42:5
 loop-less : tie.Need-loop-less Inv-loop μ-loop
-loop-less c = ?
+loop-less c = search needs
 
--- src/printing.rt:42:5
 loop-again : tie.Need-loop-again Inv-loop μ-loop
-loop-again c = ?
+loop-again c = let w = c .before .before .before .before .before in (
+  omega arith,
+  omega (arith, w .before .loop .inv .1),
+  writing-more (w .before .loop .inv .2) (w .before .before .before .pre .1) (row w) (more w) (ahead w) _ _ (c .before .before .out-line .ensures),
+)
 
--- src/printing.rt:34:1
 same-length : tie.Need-same-length Inv-loop μ-loop
-same-length c = ?
+same-length c = writing-length (c .before .loop .inv .2) (c .before .before .before .pre .1)
 
--- src/printing.rt:34:1
 returns : tie.Need-returns Inv-loop μ-loop
-returns c = ?
+returns c = let l = c .before in
+    let b = l .before .before in
+    writing-end (l .loop .inv .2) (b .pre .1) (lines-end (b .args .width) (b .args .height) (b .args .levels .now) (l .loop .i) (l .loop .start) (c .loop-test .left))
 
 pub out-lines-spec : {M : Type 1} → statement M
 out-lines-spec =

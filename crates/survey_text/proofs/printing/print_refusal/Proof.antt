@@ -1,33 +1,39 @@
+-- `print_refusal` writes two lines in a row.
 use borrow.Author.Needs.{needs}
+use mathlib.Core.List.{_++_}
+use Rattle.survey_text.specs.Bytes.{bytes}
+use Rattle.survey_text.specs.Printing.{decimal, line, refusalText}
+use Rattle.survey_text.specs.Buffers.{Room}
+use Rattle.survey_text.proofs.Written.{room-first, room-then, written-then}
 use Rattle.survey_text.proofs.printing.print_refusal.Statement.{statement}
 use Rattle.survey_text.proofs.printing.print_refusal.Tie as tie
-use Rattle.survey_text.proofs.printing.print_refusal.Reads as reads
-use Rattle.survey_text.proofs.printing.print_refusal.Lts as lts
-use Rattle.survey_text.proofs.printing.number_line.Reads as number-line-reads
 
--- src/printing.rt:95:28
+-- the room for the two lines
+room : (b : tie.Start) → Room (line (bytes "refused=") (decimal (b .args .number)) ++ line (bytes "place=") (decimal (b .args .place))) (b .args .at) (b .args .out .now)
+unfolding refusalText
+room b = b .pre
+
 slice-aggregate-number-line : tie.Need-slice-aggregate-number-line
 slice-aggregate-number-line c = search needs
 
--- src/printing.rt:95:9
 number-line-requires : tie.Need-number-line-requires
-number-line-requires c κs = ?
+number-line-requires c κs = room-first _ _ _ _ (room (c .before .before .before))
 
--- src/printing.rt:96:17
 slice-aggregate-number-line-2 : tie.Need-slice-aggregate-number-line-2
 slice-aggregate-number-line-2 c = search needs
 
--- src/printing.rt:96:5
 number-line-requires-2 : tie.Need-number-line-requires-2
-number-line-requires-2 c κs = ?
+number-line-requires-2 c κs = let n = c .before .before .before .before in
+    room-then _ (room (n .before .before .before .before)) (n .number-line .ensures)
 
--- src/printing.rt:91:1
 same-length : tie.Need-same-length
 same-length c = search needs
 
--- src/printing.rt:91:1
 returns : tie.Need-returns
-returns c = ?
+unfolding refusalText
+returns c = let p = c .before .before in
+    let n = p .before .before .before .before .before in
+    written-then (room (n .before .before .before .before)) (n .number-line .ensures) (p .number-line2 .ensures)
 
 pub print-refusal-spec : {M : Type 1} → statement M
 print-refusal-spec =
