@@ -20,59 +20,60 @@ unfolding placed
 written-none out at = let e : at + 0 ≡ at = omega arith in
     record { behind = sym e; holds = sym (rw (e, append-nil (take at out)) (take-append-drop at out)) }
 
-placed-length : (out : List ℕ) (at : ℕ) (text : List ℕ) → Room text at out → length (placed out at text) ≡ length out
+placed-length : {out : List ℕ} {at : ℕ} {text : List ℕ} → Room text at out → length (placed out at text) ≡ length out
 unfolding placed
-placed-length out at text h = simp (length-append, length-drop) (omega (arith, length-take-le at out (omega arith)))
+placed-length {out} {at} room = simp (length-append, length-drop) (omega (arith, room .fits, length-take-le at out (omega arith)))
 
 pub written-length : {text : List ℕ} {at : ℕ} {out after : List ℕ} {next : ℕ} → Room text at out → Written text at out after next → length after ≡ length out
-written-length {text} {at} {out} room w = ap length (w .holds) ∙ placed-length out at text room
+written-length room w = ap length (w .holds) ∙ placed-length room
 
 -- ---- two writes in a row
 
-pub room-first : (xs ys : List ℕ) (at : ℕ) (out : List ℕ) → Room (xs ++ ys) at out → Room xs at out
-room-first xs ys at out room = omega (arith, length-append xs ys)
+module _ (xs ys : List ℕ) {at : ℕ} {out : List ℕ} (room : Room (xs ++ ys) at out) where
+  pub room-first : Room xs at out
+  room-first = record { fits = omega (arith, room .fits, length-append xs ys) }
 
-pub room-then : {xs : List ℕ} {at : ℕ} {out mid : List ℕ} {m : ℕ} (ys : List ℕ) → Room (xs ++ ys) at out → Written xs at out mid m → Room ys m mid
-room-then {xs} {at} {out} {mid} {m} ys room w =
-    omega (arith, length-append xs ys, w .behind, written-length (room-first xs ys at out room) w)
+  placed-then : placed (placed out at xs) (at + length xs) ys ≡ placed out at (xs ++ ys)
+  unfolding placed
+  placed-then =
+      let t = take at out in
+      let d = drop (at + length xs) out in
+      let n : length (t ++ xs) ≡ at + length xs =
+      length-append t xs ∙ (let k = length-take-le at out (omega (arith, room-first .fits)) in omega arith) in
+      let front : take (at + length xs) ((t ++ xs) ++ d) ≡ t ++ xs = take-at (t ++ xs) d (at + length xs) n in
+      let back : drop (at + length xs + length ys) ((t ++ xs) ++ d) ≡ drop (at + length xs + length ys) out =
+      ap (λ (k : ℕ). drop (k + length ys) ((t ++ xs) ++ d)) (sym n) ∙ drop-append-add (t ++ xs) d (length ys) ∙ drop-drop (length ys) (at + length xs) out in
+      rw (front, back, length-append xs ys, ← add-assoc at (length xs) (length ys), append-assoc t xs ys)
 
-placed-then : (xs ys : List ℕ) (at : ℕ) (out : List ℕ) → Room xs at out → placed (placed out at xs) (at + length xs) ys ≡ placed out at (xs ++ ys)
-unfolding placed
-placed-then xs ys at out room =
-    let t = take at out in
-    let d = drop (at + length xs) out in
-    let n : length (t ++ xs) ≡ at + length xs = length-append t xs ∙ (let k = length-take-le at out (omega arith) in omega arith) in
-    let front : take (at + length xs) ((t ++ xs) ++ d) ≡ t ++ xs = take-at (t ++ xs) d (at + length xs) n in
-    let back : drop (at + length xs + length ys) ((t ++ xs) ++ d) ≡ drop (at + length xs + length ys) out =
-    ap (λ (k : ℕ). drop (k + length ys) ((t ++ xs) ++ d)) (sym n) ∙ drop-append-add (t ++ xs) d (length ys) ∙ drop-drop (length ys) (at + length xs) out in
-    rw (front, back, length-append xs ys, ← add-assoc at (length xs) (length ys), append-assoc t xs ys)
+  module _ {mid : List ℕ} {m : ℕ} (w : Written xs at out mid m) where
+    pub room-then : Room ys m mid
+    room-then = record { fits = omega (arith, room .fits, length-append xs ys, w .behind, written-length room-first w) }
 
-pub written-then : {xs ys : List ℕ} {at : ℕ} {out mid after : List ℕ} {m next : ℕ} → Room (xs ++ ys) at out → Written xs at out mid m
-    → Written ys m mid after next → Written (xs ++ ys) at out after next
-written-then {xs} {ys} {at} {out} room w v = record {
-  behind = omega (arith, v .behind, w .behind, length-append xs ys);
-  holds = v .holds ∙ rw (w .holds, w .behind) (placed-then xs ys at out (room-first xs ys at out room));
-}
+    pub written-then : {after : List ℕ} {next : ℕ} → Written ys m mid after next → Written (xs ++ ys) at out after next
+    written-then v = record {
+      behind = omega (arith, v .behind, w .behind, length-append xs ys);
+      holds = v .holds ∙ rw (w .holds, w .behind) placed-then;
+    }
 
 -- ---- three writes in a row
 
-module _ (xs ys zs : List ℕ) (at : ℕ) (out : List ℕ) (room : Room (xs ++ ys ++ zs) at out) where
+module _ (xs ys zs : List ℕ) {at : ℕ} {out : List ℕ} (room : Room (xs ++ ys ++ zs) at out) where
   two-room : Room (xs ++ ys) at out
-  two-room = room-first (xs ++ ys) zs at out room
+  two-room = room-first (xs ++ ys) zs room
 
   pub room-one : Room xs at out
-  room-one = room-first xs ys at out two-room
+  room-one = room-first xs ys two-room
 
   module _ {o : List ℕ} {m : ℕ} (w : Written xs at out o m) where
     pub room-two : Room ys m o
-    room-two = room-then ys two-room w
+    room-two = room-then xs ys two-room w
 
     module _ {p : List ℕ} {n : ℕ} (v : Written ys m o p n) where
       pub room-three : Room zs n p
-      room-three = room-then zs room (written-then two-room w v)
+      room-three = room-then (xs ++ ys) zs room (written-then xs ys two-room w v)
 
       pub written-three : {q : List ℕ} {r : ℕ} → Written zs n p q r → Written (xs ++ ys ++ zs) at out q r
-      written-three u = written-then room (written-then two-room w v) u
+      written-three u = written-then (xs ++ ys) zs room (written-then xs ys two-room w v) u
 
 -- ---- a write that goes part by part
 
@@ -90,7 +91,7 @@ module _ {whole rest : List ℕ} {at : ℕ} {out now : List ℕ} {next : ℕ} (g
   said-room = rw (g .joined) room
 
   pub writing-length : length now ≡ length out
-  writing-length = written-length (room-first (g .said) rest at out said-room) (g .written)
+  writing-length = written-length (room-first (g .said) rest said-room) (g .written)
 
   -- all was written
   pub writing-end : rest ≡ [] → Written whole at out now next
@@ -101,14 +102,14 @@ module _ {whole rest : List ℕ} {at : ℕ} {out now : List ℕ} {next : ℕ} (g
     whole-is = append-assoc (g .said) part more ∙ (let h = g .joined in rw e at h)
 
     part-room : Room (g .said ++ part) at out
-    part-room = room-first (g .said ++ part) more at out (rw whole-is room)
+    part-room = room-first (g .said ++ part) more (rw whole-is room)
 
     pub writing-room : Room part next now
-    writing-room = room-then part part-room (g .written)
+    writing-room = room-then (g .said) part part-room (g .written)
 
     pub writing-more : (after : List ℕ) (m : ℕ) → Written part next now after m → Writing whole more at out after m
     writing-more after m v = record {
       said = g .said ++ part;
-      written = written-then part-room (g .written) v;
+      written = written-then (g .said) part part-room (g .written) v;
       joined = whole-is;
     }

@@ -8,8 +8,9 @@ use lib.ListN.{length, take, drop}
 unfoldable pub placed : List ℕ → ℕ → List ℕ → List ℕ
 placed out at text = take at out ++ text ++ drop (at + length text) out
 
-abbrev pub Room : List ℕ → ℕ → List ℕ → Type 0
-Room text at out = at + length text ≤ length out
+-- the buffer has room for this text at this place
+pub record Room (text : List ℕ) (at : ℕ) (out : List ℕ) : Type 0 where
+  pub fits : at + length text ≤ length out
 
 -- the text was written at a place of the buffer, and `next` is the place behind it
 pub record Written (text : List ℕ) (at : ℕ) (before after : List ℕ) (next : ℕ) : Type 0 where

@@ -19,13 +19,13 @@ slice-aggregate-put-text : tie.Need-slice-aggregate-put-text
 slice-aggregate-put-text c = search needs
 
 put-text-requires : tie.Need-put-text-requires
-put-text-requires c κs = let b = c .before .before .before in room-one (bytes "level=") (signedDecimal (b .args .level)) (newline ∷ []) (b .args .at) (b .args .out .now) (room b)
+put-text-requires c κs = let b = c .before .before .before in room-one (bytes "level=") (signedDecimal (b .args .level)) (newline ∷ []) (room b)
 
 put-level-requires : tie.Need-put-level-requires
 put-level-requires c κs = let t = c .before .before .before in
     let b = t .before .before .before .before in
     rw (toZ-ofZ w16 (b .args .level) (b .fits .level))
-    (room-two (bytes "level=") (signedDecimal (b .args .level)) (newline ∷ []) (b .args .at) (b .args .out .now) (room b) (t .put-text .ensures))
+    (room-two (bytes "level=") (signedDecimal (b .args .level)) (newline ∷ []) (room b) (t .put-text .ensures))
 
 -- what `put_level` wrote
 value : (c : tie.After-put-level) → let b = c .before .before .before .before .before .before .before .before in Written (signedDecimal (b .args .level)) (c .before .before .before .before .put-text .result) (c .before .before .before .before .put-text .last .1 .0) (c .put-level .last .1 .0) (c .put-level .result)
@@ -35,7 +35,7 @@ put-requires : tie.Need-put-requires
 put-requires c κs = let v = c .before .before .before in
     let t = v .before .before .before .before in
     let b = t .before .before .before .before in
-    room-three (bytes "level=") (signedDecimal (b .args .level)) (newline ∷ []) (b .args .at) (b .args .out .now) (room b) (t .put-text .ensures) (value v)
+    room-three (bytes "level=") (signedDecimal (b .args .level)) (newline ∷ []) (room b) (t .put-text .ensures) (value v)
 
 same-length : tie.Need-same-length
 same-length c = search needs
@@ -46,7 +46,7 @@ returns c = let p = c .before .before in
     let v = p .before .before .before .before in
     let t = v .before .before .before .before in
     let b = t .before .before .before .before in
-    written-three (bytes "level=") (signedDecimal (b .args .level)) (newline ∷ []) (b .args .at) (b .args .out .now) (room b) (t .put-text .ensures) (value v) (p .put .ensures)
+    written-three (bytes "level=") (signedDecimal (b .args .level)) (newline ∷ []) (room b) (t .put-text .ensures) (value v) (p .put .ensures)
 
 pub level-line-spec : {M : Type 1} → statement M
 level-line-spec =

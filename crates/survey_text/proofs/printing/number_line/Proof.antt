@@ -14,18 +14,18 @@ unfolding line
 room b = b .pre
 
 put-text-requires : tie.Need-put-text-requires
-put-text-requires c κs = let b = c .before .before .before in room-one (b .args .name .now) (decimal (b .args .n)) (newline ∷ []) (b .args .at) (b .args .out .now) (room b)
+put-text-requires c κs = let b = c .before .before .before in room-one (b .args .name .now) (decimal (b .args .n)) (newline ∷ []) (room b)
 
 put-number-requires : tie.Need-put-number-requires
 put-number-requires c κs = let t = c .before .before .before in
     let b = t .before .before .before .before in
-    room-two (b .args .name .now) (decimal (b .args .n)) (newline ∷ []) (b .args .at) (b .args .out .now) (room b) (t .put-text .ensures)
+    room-two (b .args .name .now) (decimal (b .args .n)) (newline ∷ []) (room b) (t .put-text .ensures)
 
 put-requires : tie.Need-put-requires
 put-requires c κs = let v = c .before .before .before in
     let t = v .before .before .before .before in
     let b = t .before .before .before .before in
-    room-three (b .args .name .now) (decimal (b .args .n)) (newline ∷ []) (b .args .at) (b .args .out .now) (room b) (t .put-text .ensures) (v .put-number .ensures)
+    room-three (b .args .name .now) (decimal (b .args .n)) (newline ∷ []) (room b) (t .put-text .ensures) (v .put-number .ensures)
 
 same-length : tie.Need-same-length
 same-length c = search needs
@@ -36,7 +36,7 @@ returns c = let p = c .before .before in
     let v = p .before .before .before .before in
     let t = v .before .before .before .before in
     let b = t .before .before .before .before in
-    written-three (b .args .name .now) (decimal (b .args .n)) (newline ∷ []) (b .args .at) (b .args .out .now) (room b) (t .put-text .ensures) (v .put-number .ensures) (p .put .ensures)
+    written-three (b .args .name .now) (decimal (b .args .n)) (newline ∷ []) (room b) (t .put-text .ensures) (v .put-number .ensures) (p .put .ensures)
 
 pub number-line-spec : {M : Type 1} → statement M
 number-line-spec =

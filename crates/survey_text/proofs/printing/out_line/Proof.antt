@@ -17,18 +17,18 @@ slice-aggregate-put-text : tie.Need-slice-aggregate-put-text
 slice-aggregate-put-text c = search needs
 
 put-text-requires : tie.Need-put-text-requires
-put-text-requires c κs = let b = c .before .before .before in room-one (bytes "out=") (parted (map signedDecimal (b .args .row .now))) (newline ∷ []) (b .args .at) (b .args .out .now) (room b)
+put-text-requires c κs = let b = c .before .before .before in room-one (bytes "out=") (parted (map signedDecimal (b .args .row .now))) (newline ∷ []) (room b)
 
 put-levels-requires : tie.Need-put-levels-requires
 put-levels-requires c κs = let t = c .before .before .before in
     let b = t .before .before .before .before in
-    room-two (bytes "out=") (parted (map signedDecimal (b .args .row .now))) (newline ∷ []) (b .args .at) (b .args .out .now) (room b) (t .put-text .ensures)
+    room-two (bytes "out=") (parted (map signedDecimal (b .args .row .now))) (newline ∷ []) (room b) (t .put-text .ensures)
 
 put-requires : tie.Need-put-requires
 put-requires c κs = let v = c .before .before .before in
     let t = v .before .before .before .before in
     let b = t .before .before .before .before in
-    room-three (bytes "out=") (parted (map signedDecimal (b .args .row .now))) (newline ∷ []) (b .args .at) (b .args .out .now) (room b) (t .put-text .ensures) (v .put-levels .ensures)
+    room-three (bytes "out=") (parted (map signedDecimal (b .args .row .now))) (newline ∷ []) (room b) (t .put-text .ensures) (v .put-levels .ensures)
 
 same-length : tie.Need-same-length
 same-length c = search needs
@@ -39,7 +39,7 @@ returns c = let p = c .before .before in
     let v = p .before .before .before .before in
     let t = v .before .before .before .before in
     let b = t .before .before .before .before in
-    written-three (bytes "out=") (parted (map signedDecimal (b .args .row .now))) (newline ∷ []) (b .args .at) (b .args .out .now) (room b) (t .put-text .ensures) (v .put-levels .ensures) (p .put .ensures)
+    written-three (bytes "out=") (parted (map signedDecimal (b .args .row .now))) (newline ∷ []) (room b) (t .put-text .ensures) (v .put-levels .ensures) (p .put .ensures)
 
 pub out-line-spec : {M : Type 1} → statement M
 out-line-spec =

@@ -17,18 +17,18 @@ slice-aggregate-put-text : tie.Need-slice-aggregate-put-text
 slice-aggregate-put-text c = search needs
 
 put-text-requires : tie.Need-put-text-requires
-put-text-requires c κs = let b = c .before .before .before .before in room-one (bytes "path=") (parted (map decimal (b .args .path .now))) (newline ∷ []) (b .args .at) (b .args .out .now) (room b)
+put-text-requires c κs = let b = c .before .before .before .before in room-one (bytes "path=") (parted (map decimal (b .args .path .now))) (newline ∷ []) (room b)
 
 put-places-requires : tie.Need-put-places-requires
 put-places-requires c κs = let t = c .before .before .before in
     let b = t .before .before .before .before .before in
-    room-two (bytes "path=") (parted (map decimal (b .args .path .now))) (newline ∷ []) (b .args .at) (b .args .out .now) (room b) (t .put-text .ensures)
+    room-two (bytes "path=") (parted (map decimal (b .args .path .now))) (newline ∷ []) (room b) (t .put-text .ensures)
 
 put-requires : tie.Need-put-requires
 put-requires c κs = let v = c .before .before .before in
     let t = v .before .before .before .before in
     let b = t .before .before .before .before .before in
-    room-three (bytes "path=") (parted (map decimal (b .args .path .now))) (newline ∷ []) (b .args .at) (b .args .out .now) (room b) (t .put-text .ensures) (v .put-places .ensures)
+    room-three (bytes "path=") (parted (map decimal (b .args .path .now))) (newline ∷ []) (room b) (t .put-text .ensures) (v .put-places .ensures)
 
 same-length : tie.Need-same-length
 same-length c = search needs
@@ -39,7 +39,7 @@ returns c = let p = c .before .before in
     let v = p .before .before .before .before in
     let t = v .before .before .before .before in
     let b = t .before .before .before .before .before in
-    written-three (bytes "path=") (parted (map decimal (b .args .path .now))) (newline ∷ []) (b .args .at) (b .args .out .now) (room b) (t .put-text .ensures) (v .put-places .ensures) (p .put .ensures)
+    written-three (bytes "path=") (parted (map decimal (b .args .path .now))) (newline ∷ []) (room b) (t .put-text .ensures) (v .put-places .ensures) (p .put .ensures)
 
 pub path-line-spec : {M : Type 1} → statement M
 path-line-spec =

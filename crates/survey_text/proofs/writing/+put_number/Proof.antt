@@ -28,12 +28,15 @@ abbrev put-number-below : ℕ → In 1 put-number-kinds.ps
 put-number-below t =
     and 1 put-number-kinds.ps (falls 1 put-number-kinds.ps _<_ μ-put-number t) put-number.Pre
 
--- the last digit; and the room for the tenth and the last digit
+-- the digits of the tenth, and the last digit; and the room for both
+abbrev tenth : {t : ℕ} → put-number-lts.Start (put-reads.Asked, put-reads.Learnt, put-number-below t, put-number.Post) (put-number-at t) put-number.Post → List ℕ
+tenth b = decimal (b .args .n / 10)
+
 abbrev last : {t : ℕ} → put-number-lts.Start (put-reads.Asked, put-reads.Learnt, put-number-below t, put-number.Post) (put-number-at t) put-number.Post → List ℕ
 last b = (zeroDigit + b .args .n % 10) ∷ []
 
 parts-room : {t : ℕ} (b : put-number-lts.Start (put-reads.Asked, put-reads.Learnt, put-number-below t, put-number.Post) (put-number-at t) put-number.Post) →
-    10 ≤ b .args .n → Room (decimal (b .args .n / 10) ++ last b) (b .args .at) (b .args .out .now)
+    10 ≤ b .args .n → Room (tenth b ++ last b) (b .args .at) (b .args .out .now)
 parts-room b h = rw (decimal-more (b .args .n) h) at (b .pre .1)
 
 put-number-cast-put : (t : ℕ) → put-number-lts.Need-cast-put (
@@ -86,7 +89,7 @@ put-number-put-number-requires : (t : ℕ) → put-number-lts.Need-put-number-re
 ) (put-number-at t) put-number.Post
 put-number-put-number-requires t c κs = let b = c .before .before .before in (
   omega (arith, b .pre .0, c .before .if1 .left),
-  room-first (decimal (b .args .n / 10)) (last b) (b .args .at) (b .args .out .now) (parts-room b (c .before .if1 .left)),
+  room-first (tenth b) (last b) (parts-room b (c .before .if1 .left)),
 )
 
 put-number-cast-put-2 : (t : ℕ) → put-number-lts.Need-cast-put-2 (
@@ -113,7 +116,7 @@ put-number-put-requires-2 : (t : ℕ) → put-number-lts.Need-put-requires-2 (
 ) (put-number-at t) put-number.Post
 put-number-put-requires-2 t c κs = let p = c .before .before .before in
     let b = p .before .before .before .before in
-    room-then (last b) (parts-room b (p .before .before .if1 .left)) (p .put-number .ensures)
+    room-then (tenth b) (last b) (parts-room b (p .before .before .if1 .left)) (p .put-number .ensures)
 
 put-number-same-length-2 : (t : ℕ) → put-number-lts.Need-same-length-2 (
   put-reads.Asked,
@@ -132,7 +135,7 @@ put-number-returns-2 : (t : ℕ) → put-number-lts.Need-returns-2 (
 put-number-returns-2 t c = let p = c .before .before .before .before .before .before in
     let b = p .before .before .before .before in
     let h = p .before .before .if1 .left in
-    rw (decimal-more (b .args .n) h) (written-then (parts-room b h) (p .put-number .ensures) (c .before .before .put2 .ensures))
+    rw (decimal-more (b .args .n) h) (written-then (tenth b) (last b) (parts-room b h) (p .put-number .ensures) (c .before .before .put2 .ensures))
 
 pub +put-number-spec : {M : Type 1} → statement M
 +put-number-spec = close μ-put-number λ t. put-number-lts.spec (

@@ -27,8 +27,7 @@ above : (c : tie.Else1) → ltZ (c .before .before .args .level) (pos 0) ≡ fal
 above c = rw (toZ-ofZ w16 (c .before .before .args .level) (c .before .before .fits .level)) at (c .if1 .left)
 
 put-requires : tie.Need-put-requires
-put-requires c κs = let b = c .before .before .before in
-    room-first (minus ∷ []) (decimal (natAbs (b .args .level))) (b .args .at) (b .args .out .now) (room (c .before))
+put-requires c κs = let b = c .before .before .before in room-first (minus ∷ []) (decimal (natAbs (b .args .level))) (room (c .before))
 
 magnitude-requires : tie.Need-magnitude-requires
 magnitude-requires c κs = search needs
@@ -41,7 +40,7 @@ put-number-requires : tie.Need-put-number-requires
 put-number-requires c κs = let m = c .before in
     let p = m .before .before .before in
     let b = p .before .before .before .before in
-    rw (far m) (room-then (decimal (natAbs (b .args .level))) (room (p .before .before)) (p .put .ensures))
+    rw (far m) (room-then (minus ∷ []) (decimal (natAbs (b .args .level))) (room (p .before .before)) (p .put .ensures))
 
 same-length : tie.Need-same-length
 same-length c = search needs
@@ -52,7 +51,7 @@ returns c = let n = c .before .before in
     let p = m .before .before .before in
     let b = p .before .before .before .before in
     rw (below-zero (b .args .level) (below (p .before .before)))
-    (written-then (room (p .before .before)) (p .put .ensures) (rw (far m) at (n .put-number .ensures)))
+    (written-then (minus ∷ []) (decimal (natAbs (b .args .level))) (room (p .before .before)) (p .put .ensures) (rw (far m) at (n .put-number .ensures)))
 
 magnitude-requires-2 : tie.Need-magnitude-requires-2
 magnitude-requires-2 c κs = search needs

@@ -2,8 +2,8 @@
 use borrow.Author.Needs.{needs}
 use native.Mathlib.Omega.{arith}
 use mathlib.Core.Path.{_≡_, _∙_}
-use mathlib.Core.List.{_++_}
-use Prim.Native.Nat.{_≤_, _<_, _-_}
+use mathlib.Core.List.{List, _++_}
+use Prim.Native.Nat.{ℕ, _≤_, _<_, _-_}
 use lib.IntN.{pos}
 use lib.ListN.{length, getD, drop}
 use mir.Syntax.{w16}
@@ -27,9 +27,16 @@ returns c = rw (parted-none signedDecimal (c .before .before .args .levels .now)
 shared-slice-copy-out-put-level : tie.Need-shared-slice-copy-out-put-level Inv-loop μ-loop
 shared-slice-copy-out-put-level c = search needs
 
+-- the first level, and the others
+abbrev head : tie.Else1 Inv-loop μ-loop → List ℕ
+head c = signedDecimal (getD (c .before .before .args .levels .now) 0 (pos 0))
+
+abbrev others : tie.Else1 Inv-loop μ-loop → List ℕ
+others c = behind signedDecimal (drop 1 (c .before .before .args .levels .now))
+
 -- room for the first level and the others
 room : (c : tie.Else1 Inv-loop μ-loop) → let b = c .before .before in
-    Room (signedDecimal (getD (b .args .levels .now) 0 (pos 0)) ++ behind signedDecimal (drop 1 (b .args .levels .now))) (b .args .at) (b .args .out .now)
+    Room (head c ++ others c) (b .args .at) (b .args .out .now)
 room c = rw (parted-first signedDecimal (c .before .before .args .levels .now) (pos 0) (omega arith)) at (c .before .before .pre)
 
 put-level-requires : tie.Need-put-level-requires Inv-loop μ-loop
@@ -37,7 +44,7 @@ put-level-requires c κs = let e = c .before .before in
     let b = e .before .before in
     let levels = b .args .levels .now in
     rw (toZ-ofZ w16 (getD levels 0 (pos 0)) (record { sfits = c .before .put-level-arg .given }))
-    (room-first (signedDecimal (getD levels 0 (pos 0))) (behind signedDecimal (drop 1 levels)) (b .args .at) (b .args .out .now) (room e))
+    (room-first (head e) (others e) (room e))
 
 -- the first level was written, and there is room for the others
 first : (c : tie.After-put-level Inv-loop μ-loop) → let b = c .before .before .before .before .before in
@@ -45,7 +52,7 @@ first : (c : tie.After-put-level Inv-loop μ-loop) → let b = c .before .before
 first c = rw (toZ-ofZ w16 (getD (c .before .before .before .before .before .args .levels .now) 0 (pos 0)) (record { sfits = c .before .before .put-level-arg .given })) at (c .put-level .ensures)
 
 others-room : (c : tie.After-put-level Inv-loop μ-loop) → Room (behind signedDecimal (drop 1 (c .before .before .before .before .before .args .levels .now))) (c .put-level .result) (c .put-level .last .1 .0)
-others-room c = room-then _ (room (c .before .before .before)) (first c)
+others-room c = let e = c .before .before .before in room-then (head e) (others e) (room e) (first c)
 
 loop-holds : tie.Need-loop-holds Inv-loop μ-loop
 loop-holds c = (omega arith, writing-none _ _ _)
@@ -83,7 +90,7 @@ loop-again c = let n = c .before .before in
     let levels = p .before .before .before .before .before .args .levels .now in (
       omega arith,
       element-written signedDecimal levels (pos 0) (l .loop .i) (q .before .before .loop-test .taken) (l .loop .inv .1) (others-room p) (q .put .ensures) _ _
-      (rw (toZ-ofZ w16 (getD levels (l .loop .i) (pos 0)) (record { sfits = n .before .before .put-level-arg3 .given })) at (n .put-level2 .ensures)),
+          (rw (toZ-ofZ w16 (getD levels (l .loop .i) (pos 0)) (record { sfits = n .before .before .put-level-arg3 .given })) at (n .put-level2 .ensures)),
     )
 
 same-length : tie.Need-same-length Inv-loop μ-loop
@@ -97,7 +104,7 @@ returns-2 c = let l = c .before in
     let e = p .before .before .before in
     let levels = e .before .before .args .levels .now in
     rw (parted-first signedDecimal levels (pos 0) (omega arith))
-    (written-then (room e) (first p) (writing-end (l .loop .inv .1) (others-room p) (behind-end signedDecimal levels (l .loop .i) (c .loop-test .left))))
+    (written-then (head e) (others e) (room e) (first p) (writing-end (l .loop .inv .1) (others-room p) (behind-end signedDecimal levels (l .loop .i) (c .loop-test .left))))
 
 pub put-levels-spec : {M : Type 1} → statement M
 put-levels-spec =

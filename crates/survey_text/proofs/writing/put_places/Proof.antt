@@ -2,8 +2,8 @@
 use borrow.Author.Needs.{needs}
 use native.Mathlib.Omega.{arith}
 use mathlib.Core.Path.{_≡_, _∙_}
-use mathlib.Core.List.{_++_}
-use Prim.Native.Nat.{_≤_, _<_, _-_}
+use mathlib.Core.List.{List, _++_}
+use Prim.Native.Nat.{ℕ, _≤_, _<_, _-_}
 use lib.ListN.{length, getD, drop}
 use Rattle.survey_text.specs.Printing.{decimal}
 use Rattle.survey_text.specs.Buffers.{Room, Written}
@@ -27,20 +27,24 @@ shared-slice-read-put-number c = search needs
 cast-put-number : tie.Need-cast-put-number Inv-loop μ-loop
 cast-put-number c = omega (arith, c .shared-slice-known2 .given 0)
 
+-- the first place, and the others
+abbrev head : tie.Else1 Inv-loop μ-loop → List ℕ
+head c = decimal (getD (c .before .before .before .args .places .now) 0 0)
+
+abbrev others : tie.Else1 Inv-loop μ-loop → List ℕ
+others c = behind decimal (drop 1 (c .before .before .before .args .places .now))
+
 -- room for the first place and the others
 room : (c : tie.Else1 Inv-loop μ-loop) → let b = c .before .before .before in
-    Room (decimal (getD (b .args .places .now) 0 0) ++ behind decimal (drop 1 (b .args .places .now))) (b .args .at) (b .args .out .now)
+    Room (head c ++ others c) (b .args .at) (b .args .out .now)
 room c = rw (parted-first decimal (c .before .before .before .args .places .now) 0 (omega arith)) at (c .before .before .before .pre)
 
 put-number-requires : tie.Need-put-number-requires Inv-loop μ-loop
-put-number-requires c κs = let e = c .before .before in
-    let b = e .before .before .before in
-    let places = b .args .places .now in
-    room-first (decimal (getD places 0 0)) (behind decimal (drop 1 places)) (b .args .at) (b .args .out .now) (room e)
+put-number-requires c κs = room-first (head (c .before .before)) (others (c .before .before)) (room (c .before .before))
 
 -- there is room for the others
 others-room : (c : tie.After-put-number Inv-loop μ-loop) → Room (behind decimal (drop 1 (c .before .before .before .before .before .before .args .places .now))) (c .put-number .result) (c .put-number .last .1 .0)
-others-room c = room-then _ (room (c .before .before .before)) (c .put-number .ensures)
+others-room c = let e = c .before .before .before in room-then (head e) (others e) (room e) (c .put-number .ensures)
 
 loop-holds : tie.Need-loop-holds Inv-loop μ-loop
 loop-holds c = (omega arith, writing-none _ _ _)
@@ -94,7 +98,7 @@ returns-2 c = let l = c .before in
     let e = p .before .before .before in
     let places = e .before .before .before .args .places .now in
     rw (parted-first decimal places 0 (omega arith))
-    (written-then (room e) (p .put-number .ensures) (writing-end (l .loop .inv .1) (others-room p) (behind-end decimal places (l .loop .i) (c .loop-test .left))))
+    (written-then (head e) (others e) (room e) (p .put-number .ensures) (writing-end (l .loop .inv .1) (others-room p) (behind-end decimal places (l .loop .i) (c .loop-test .left))))
 
 pub put-places-spec : {M : Type 1} → statement M
 put-places-spec =
