@@ -1,18 +1,19 @@
 -- What the lines of the head say once they are accepted: the size is good and small, and how many lines were read.
 use Prim.Native.Nat.{ℕ, _+_, _*_, _≤_}
-use mathlib.Core.Path.{_≡_, ap}
+use mathlib.Core.Path.{_≡_, ap, sym, subst}
 use mathlib.Core.Bool.{false}
-use mathlib.Core.List.{[], _∷_}
+use mathlib.Core.List.{List, [], _∷_}
 use native.Mathlib.Omega.{arith}
 use borrow.Author.Tests.{ltb-false}
 use lib.Dec.{ltb}
-use Rattle.plate.specs.Refusals.{Verdict.accepted, row, badSize, sizeCheck}
+use lib.ListN.{length}
+use Rattle.plate.specs.Refusals.{Verdict.accepted, row, badSize, judged, sizeCheck}
 use Rattle.plate.specs.declared.setting.Setting.{Setting}
 use Rattle.survey_text.specs.Bytes.{bytes}
 use Rattle.survey_text.specs.Format.{number, nothing}
-use Rattle.survey_text.specs.Reading.{maxPlate, Rest, next, sizeLines, settingLines}
+use Rattle.survey_text.specs.Reading.{maxBytes, maxPlate, PlateText, Rest, next, sizeLines, settingLines, plateLines, reading}
 use Rattle.survey_text.proofs.NextLine.{lineIn, next-line}
-use Rattle.survey_text.proofs.Verdicts.{steps-accepted, check-passed, checks-passed}
+use Rattle.survey_text.proofs.Verdicts.{accepted-same, steps-accepted, check-passed, checks-passed}
 
 pub record Sized (W H : ℕ) : Type 0 where
   pub good : badSize W H ≡ false
@@ -28,7 +29,7 @@ size-accepted l x e =
     let H = c .0 .0 in
     let p = check-passed (sizeCheck W H) _ _ x (c .2) in
     let q = check-passed (row 14 (ltb maxPlate (W * H)) 0) [] _ x (p .1) in
-    let r : x ≡ ((W, H), c .0 .1) = checks-passed _ x (q .1) in
+    let r : x ≡ ((W, H), c .0 .1) = checks-passed [] _ x (q .1) in
     let m : x .1 .line ≡ c .0 .1 .line = ap (λ (y : (ℕ × ℕ) × Rest). y .1 .line) r in (
       rw r (record { good = p .0; small = ltb-false maxPlate (W * H) (q .0) }),
       omega (arith, next-line _ _ _ _ (a .1), next-line _ _ _ _ (b .1), next-line _ _ _ _ (c .1)),
@@ -44,3 +45,13 @@ setting-accepted l x e =
     let f = steps-accepted (next (bytes "at=") number (d .0 .1)) _ x (d .2) in
     let m : x .1 .line ≡ f .0 .1 .line = ap lineIn (f .2) in
     omega (arith, next-line _ _ _ _ (a .1), next-line _ _ _ _ (b .1), next-line _ _ _ _ (c .1), next-line _ _ _ _ (d .1), next-line _ _ _ _ (f .1))
+
+-- a text that is accepted has a good and small plate
+pub reading-sized : (text : List ℕ) (t : PlateText) → accepted t ≡ reading text → Sized (t .width) (t .height)
+unfolding reading
+reading-sized text t e =
+    let a = steps-accepted (judged (row 14 (ltb maxBytes (length text)) 0 ∷ []) (record { line = 1; bytes = text })) _ t e in
+    let b = steps-accepted (sizeLines (a .0)) _ t (a .2) in
+    let c = steps-accepted (settingLines (b .0 .1)) _ t (b .2) in
+    let d = steps-accepted (plateLines (b .0 .0 .0) (b .0 .0 .1) (c .0 .1)) _ t (c .2) in
+    subst (λ (u : PlateText). Sized (u .width) (u .height)) (sym (accepted-same t _ (d .2))) (size-accepted (a .0) (b .0) (b .1) .0)

@@ -11,3 +11,4 @@ pub mod Decimals
 pub mod SignedDecimals
 pub mod Parted
 pub mod OutLines
+pub mod Requests

@@ -9,6 +9,9 @@ use Rattle.basics.proofs.Tests.{true-or-false}
 use Rattle.plate.specs.Refusals.{Verdict, Verdict.accepted, Verdict.refused, Check, judged}
 use Rattle.survey_text.specs.Reading.{_>>=_}
 
+pub accepted-same : {A : Type 0} (a b : A) → accepted a ≡ accepted b → a ≡ b
+accepted-same a b e = cc
+
 -- one step after another: the first was accepted, and then the second
 pub steps-accepted : {A B : Type 0} (v : Verdict A) (k : A → Verdict B) (b : B) → accepted b ≡ (v >>= k) → (a : A) × (accepted a ≡ v) × (accepted b ≡ k a)
 steps-accepted (accepted a) k b e = (a, refl, e)
@@ -23,7 +26,8 @@ check-passed {A} c cs a b e =
     (λ t. (t, rw t at e))
     (true-or-false (c .refuses))
 
--- no check is left
-pub checks-passed : {A : Type 0} (a b : A) → accepted b ≡ judged [] a → b ≡ a
+-- no check refused: what is accepted is what was judged
+pub checks-passed : {A : Type 0} (cs : List Check) (a b : A) → accepted b ≡ judged cs a → b ≡ a
 unfolding judged
-checks-passed a b e = cc
+checks-passed [] a b e = cc
+checks-passed (c ∷ cs) a b e = checks-passed cs a b (check-passed c cs a b e .1)

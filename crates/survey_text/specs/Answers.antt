@@ -6,7 +6,9 @@ use mathlib.Core.Option.{Option, none, some}
 use lib.ListN.{length, take, drop}
 use Rattle.plate.specs.Refusals.{Verdict, Verdict.accepted, Verdict.refused}
 use Rattle.plate.specs.declared.setting.Setting.{Setting}
+use lib.IntN.{ℤ}
 use Rattle.survey_text.specs.Reading.{Rest, PlateText}
+use Rattle.survey_text.specs.Survey.{Survey}
 use Rattle.survey_text.specs.declared.number.Number.{Number}
 use Rattle.survey_text.specs.declared.number.Number.the-variants.{Is, Bad}
 use Rattle.survey_text.specs.declared.line.Value.{Value}
@@ -24,6 +26,7 @@ use Rattle.survey_text.specs.declared.reading.RowLines.{RowLines}
 use Rattle.survey_text.specs.declared.reading.RowLines.the-variants.{Next as Rows, Bad as NoRows}
 use Rattle.survey_text.specs.declared.reading.PlateLines.{PlateLines}
 use Rattle.survey_text.specs.declared.reading.PlateLines.the-variants.{Filled, Bad as NotFilled}
+use Rattle.survey_text.specs.declared.reading.Header.{Header}
 use Rattle.survey_text.specs.declared.reading.Reading.{Reading}
 use Rattle.survey_text.specs.declared.reading.Reading.the-variants.{Plate, Refused}
 
@@ -91,3 +94,20 @@ readingTold readings words (Plate h) =
       words = take n words;
     })
 readingTold readings words (Refused number place) = refused number place
+
+-- the lent buffer holds the corrected levels at its front
+abbrev pub requestTold : List ℤ → Reading → Verdict Survey
+requestTold levels (Plate h) =
+    accepted (record {
+      width = h .width;
+      height = h .height;
+      setting = h .setting;
+      place = h .place;
+      levels = take (h .width * h .height) levels;
+    })
+requestTold levels (Refused number place) = refused number place
+
+-- a head whose setting was judged
+abbrev pub checkedTold : Header → Verdict Setting → Reading
+checkedTold h (accepted s) = Plate h
+checkedTold h (refused number place) = Refused number place

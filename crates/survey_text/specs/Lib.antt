@@ -2,6 +2,6 @@ pub mod Bytes
 pub mod Format
 pub mod Reading
 pub mod Printing
-pub mod Answer
+pub mod Survey
 pub mod Buffers
 pub mod Answers

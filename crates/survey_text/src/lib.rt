@@ -6,4 +6,5 @@ mod line;
 mod number;
 mod printing;
 mod reading;
+mod request;
 mod writing;
