@@ -12,3 +12,4 @@ pub mod SignedDecimals
 pub mod Parted
 pub mod OutLines
 pub mod Requests
+pub mod WorkedTexts

@@ -5,3 +5,4 @@ pub mod Printing
 pub mod Survey
 pub mod Buffers
 pub mod Answers
+pub mod WorkedTexts
