@@ -39,13 +39,13 @@ pub fn put_number(n: usize, out: &mut [u8], at: usize) -> usize
 }
 
 // How far a level lies from zero; in 32 bits, since −(−32,768) needs 17.
-fn magnitude(level: i16) -> usize
-    ensures { λ r. ⌜ r ≡ natAbs level ⌝ }
+fn magnitude(v: i16) -> usize
+    ensures { λ r. ⌜ r ≡ natAbs v ⌝ }
 {
-    if level < 0 {
-        return (-(level as i32)) as usize;
+    if v < 0 {
+        return (-(v as i32)) as usize;
     }
-    level as usize
+    v as usize
 }
 
 pub fn put_level(level: i16, out: &mut [u8], at: usize) -> usize

@@ -13,25 +13,25 @@ use Rattle.survey_text.proofs.writing.magnitude.Statement.{statement}
 use Rattle.survey_text.proofs.writing.magnitude.Tie as tie
 
 -- the level is below zero
-below : (c : tie.Then1) → ltZ (c .before .args .level) (pos 0) ≡ true
-below c = rw (toZ-ofZ w16 (c .before .args .level) (c .before .fits .level)) at (c .if1 .taken)
+below : (c : tie.Then1) → ltZ (c .before .args .v) (pos 0) ≡ true
+below c = rw (toZ-ofZ w16 (c .before .args .v) (c .before .fits .v)) at (c .if1 .taken)
 
 cast-result : tie.Need-cast-result
-cast-result c = rw (toZ-ofZ w16 (c .before .args .level) (c .before .fits .level)) (widened (c .before .fits .level))
+cast-result c = rw (toZ-ofZ w16 (c .before .args .v) (c .before .fits .v)) (widened (c .before .fits .v))
 
 sub-result : tie.Need-sub-result
-sub-result c = negated-fits _ (c .before .fits .level) (below c)
+sub-result c = negated-fits _ (c .before .fits .v) (below c)
 
 cast-result-2 : tie.Need-cast-result-2
 cast-result-2 c =
-    rw (negated-read _ (c .before .fits .level) (below c)) (tt, record { fits = omega (arith, far-enough _ (c .before .fits .level)) })
+    rw (negated-read _ (c .before .fits .v) (below c)) (tt, record { fits = omega (arith, far-enough _ (c .before .fits .v)) })
 
 returns : tie.Need-returns
-returns c = rw (negated-read _ (c .before .fits .level) (below c))
+returns c = rw (negated-read _ (c .before .fits .v) (below c))
 
 cast-result-3 : tie.Need-cast-result-3
-cast-result-3 c = let v = c .before .args .level in
-    let f = c .before .fits .level in
+cast-result-3 c = let v = c .before .args .v in
+    let f = c .before .fits .v in
     let e = toZ-ofZ w16 v f in
     rw e (not-negative v (rw e at (c .if1 .left)), record { fits = omega (arith, far-enough v f) })
 
