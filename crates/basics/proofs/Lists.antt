@@ -9,7 +9,7 @@ use native.Mathlib.Numerals.{add-one}
 use native.Mathlib.Omega.{arith}
 use lib.Dec.{T}
 use lib.ListN.{length, getD, take, drop, set, replicate, length-append, length-drop, drop-of-length-le, List·getD-append}
-use lib.Seq.{drop-cons, take-suc, set-at, append-snoc, length-take-le, take-all, getD-append-add, getD-take, getD-drop}
+use lib.Seq.{drop-cons, take-suc, set-at, append-snoc, length-take-le, take-all, take-nil, getD-append-add, getD-take, getD-drop}
 use Rattle.basics.specs.Lists.{any, keep, firstOf, upFrom}
 use Rattle.basics.proofs.Numbers.{le-or-lt}
 use Rattle.basics.proofs.Tests.{true-or-false, T-true, true-T, or-cases, or-left, or-right}
@@ -245,3 +245,11 @@ module _ {A : Type 0} (xs ys : List A) (at k : ℕ) (d : A) (fits : at + k ≤ l
 -- a stretch of a list, by its places in the whole
 pub stretch-at : {A : Type 0} (xs : List A) (at k i : ℕ) (d : A) → i < k → getD (take k (drop at xs)) i d ≡ getD xs (at + i) d
 stretch-at xs at k i d h = getD-take k (drop at xs) i d h ∙ getD-drop at xs i d
+
+-- ---- the rest of a front part is a front part of the rest
+
+pub drop-take : {A : Type 0} (k n : ℕ) (l : List A) → drop k (take n l) ≡ take (n - k) (drop k l)
+drop-take zero n l = let e : n - 0 ≡ n = omega arith in rw e
+drop-take (suc k) zero l = let e : 0 - suc k ≡ 0 = omega arith in rw e
+drop-take (suc k) (suc n) [] = sym (take-nil (suc n - suc k))
+drop-take (suc k) (suc n) (x ∷ l) = let e : suc n - suc k ≡ n - k = omega arith in drop-take k n l ∙ rw e

@@ -1,14 +1,12 @@
 -- The gathered and finished plate is the filtered one. The keys by the mode are the keys of the turned plate, whose opened key is the value of the
 -- decomposition; the level of that key, turned back, is the filtered level.
-use Prim.Native.Nat.{ℕ, suc, _+_, _-_, _*_, _≤_, _<_, min, max}
+use Prim.Native.Nat.{ℕ, suc, _-_, _*_, _≤_, _<_, min}
 use mathlib.Core.Path.{_≡_, refl, sym, ap, _∙_}
-use mathlib.Core.Bool.{Bool, true, false, cond}
 use mathlib.Core.List.{List, map}
 use mathlib.Core.Logic.{⊎-elim}
-use native.Mathlib.Numerals.{add-one}
 use native.Mathlib.Omega.{arith}
 use lib.Dec.{eqb}
-use lib.ListN.{length, length-map}
+use lib.ListN.{length}
 use lib.Seq.{ext-getD}
 use lib.IntN.{ℤ}
 use lib.Signed.{mag}

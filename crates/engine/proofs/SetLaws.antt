@@ -1,18 +1,17 @@
 -- A plane set at so many steps: how it starts, and one step of the kernel. A pixel that is wanted after m + 1 steps has successors with less room,
 -- so they are wanted after m; the kernel makes its number of theirs, as the recursion of the level sets does. A pixel with less room than m has no
 -- walk of m steps, so none of m + 1: its number is 0 and stays.
-use Prim.Native.Nat.{ℕ, zero, suc, _+_, _-_, _*_, _/_, _%_, _^_, _≤_, _<_, min, max}
-use mathlib.Core.Path.{_≡_, refl, sym, ap, _∙_}
+use Prim.Native.Nat.{ℕ, zero, suc, _+_, _*_, _≤_, _<_, min, max}
+use mathlib.Core.Path.{_≡_, refl, sym, _∙_}
 use mathlib.Core.Bool.{Bool, true, false}
 use mathlib.Core.List.{List, List·Memᴰ}
 use mathlib.Core.Logic.{⊎-elim}
 use native.Mathlib.Numerals.{add-one}
 use native.Mathlib.Omega.{arith}
-use lib.ListN.{length, getD}
 use lib.IntN.{ℤ}
 use Rattle.basics.proofs.Numbers.{le-or-lt, rows-fit}
 use Rattle.plate.specs.Opening.{levelAt}
-use Rattle.theory.proofs.Walks.{Walk, Walk.go}
+use Rattle.theory.proofs.Walks.{Walk}
 use Rattle.theory.proofs.Maxima.{best, best-same}
 use Rattle.theory.proofs.LevelSets.{fewer, reach, reach-start, reach-start-gap, reach-step, reach-none}
 use Rattle.theory.proofs.Sides.{room-falls}

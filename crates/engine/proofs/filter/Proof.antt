@@ -1,6 +1,6 @@
 -- `filter` meets its contract: the checks in the table's order, each with the verdict that it gives, and once all have passed the filtered plate. A
 -- refusal comes before the first store, so both lent buffers are as they were.
-use Prim.Native.Nat.{_*_, _+_, _≤_}
+use Prim.Native.Nat.{_*_, _+_}
 use mathlib.Core.Path.{refl, sym, ap, _∙_}
 use native.Mathlib.Nat.{mul-le-mul}
 use native.Mathlib.Omega.{arith}

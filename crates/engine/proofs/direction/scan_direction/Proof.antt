@@ -1,6 +1,6 @@
 -- `scan_direction` meets its contract: at each turn the terms of one step more before the pixel are gathered. The loop begins with those of no step,
 -- which is said of whatever the result was before them.
-use Prim.Native.Nat.{ℕ, _+_, _-_, _≤_}
+use Prim.Native.Nat.{ℕ, _-_, _≤_}
 use mathlib.Core.Path.{_≡_, refl, subst, _∙_}
 use mathlib.Core.Bool.{true, false}
 use mathlib.Core.List.{List}

@@ -2,7 +2,7 @@
 use Prim.Native.Nat.{ℕ, _+_, _-_, _≤_}
 use mathlib.Core.Path.{_≡_, ap, _∙_}
 use native.Mathlib.Omega.{arith}
-use lib.ListN.{length, getD}
+use lib.ListN.{getD}
 use Rattle.kernel.specs.Runs.{Between}
 use Rattle.kernel.proofs.RunLaws.{between-none, between-more, between-ends}
 use Rattle.engine.proofs.sets.move_set.Statement.{statement}

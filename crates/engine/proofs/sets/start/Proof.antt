@@ -1,5 +1,5 @@
 -- `start` meets its contract: plane 0 the keys, every higher plane the highest key.
-use mathlib.Core.Path.{refl, _∙_}
+use mathlib.Core.Path.{_∙_}
 use borrow.Author.Needs.{needs}
 use Rattle.engine.proofs.SetLaws.{set-started}
 use Rattle.engine.proofs.sets.start.Statement.{statement}

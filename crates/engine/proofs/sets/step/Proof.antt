@@ -1,9 +1,8 @@
 -- `step` meets its contract: the kernel renews the band, and the law of one step says what that makes.
 use Prim.Native.Nat.{ℕ, _+_, _*_}
-use mathlib.Core.Path.{_≡_, refl, sym, _∙_, ap}
+use mathlib.Core.Path.{refl, _∙_, ap}
 use native.Mathlib.Omega.{arith}
 use borrow.Author.Needs.{needs}
-use Rattle.engine.specs.States.{bandStart}
 use Rattle.engine.proofs.SetLaws.{set-stepped, band-start-below}
 use Rattle.engine.proofs.sets.step.Statement.{statement}
 use Rattle.engine.proofs.sets.step.Tie as tie

@@ -1,10 +1,7 @@
 -- `scan_if_chosen` meets its contract: a direction that is not chosen, or whose paths are too short, adds nothing; else all its walks are gathered.
-use Prim.Native.Nat.{_<_}
-use mathlib.Core.Path.{_≡_, sym, subst, _∙_}
-use borrow.Author.Tests.{eqb-true}
+use mathlib.Core.Path.{sym, _∙_}
 use borrow.Author.Needs.{needs}
 use lib.Pow.{pow-pos}
-use Rattle.plate.specs.Paths.{span}
 use Rattle.engine.proofs.SweepLaws.{scan-pixels, scan-room, scan-chosen-best, member-chosen, not-chosen, too-short}
 use Rattle.engine.proofs.sweep.scan_if_chosen.Statement.{statement}
 use Rattle.engine.proofs.sweep.scan_if_chosen.Tie as tie

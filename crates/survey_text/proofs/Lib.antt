@@ -1,0 +1,15 @@
+pub mod Digits
+pub mod Names
+pub mod Lines
+pub mod NextLine
+pub mod Parts
+pub mod Verdicts
+pub mod Rows
+pub mod Heads
+pub mod Written
+pub mod Decimals
+pub mod SignedDecimals
+pub mod Parted
+pub mod OutLines
+pub mod Requests
+pub mod WorkedTexts

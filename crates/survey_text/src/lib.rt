@@ -1,0 +1,10 @@
+// The survey program's text (document 01, section 6): reading a plate's text, and printing the answer.
+//
+// specs/ defines both on lists of bytes: the format and its lines, the reading with its order of
+// judgement, the printed lines, and the whole answer as one function of the text.
+mod line;
+mod number;
+mod printing;
+mod reading;
+mod request;
+mod writing;
