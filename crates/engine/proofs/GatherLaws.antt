@@ -1,11 +1,11 @@
 -- The terms of one l. Where the rank of a pixel is from l to l + spare both sets hold the walks that are wanted, so the two sets joined there are the
 -- terms of the decomposition. Elsewhere no path reaches the pixel after l steps: too few steps lead to it, or too few lead on, and the terms are 0.
 use Prim.Native.Nat.{ℕ, zero, suc, _+_, _-_, _*_, _/_, _%_, _≤_, _<_, min, max}
-use mathlib.Core.Path.{_≡_, refl, sym, ap, _∙_}
+use mathlib.Core.Path.{_≡_, refl, sym, ap, subst, _∙_}
 use mathlib.Core.Bool.{true, false}
 use mathlib.Core.List.{List}
 use mathlib.Core.Logic.{⊎-elim}
-use native.Mathlib.Nat.{zero-add, add-mul}
+use native.Mathlib.Nat.{zero-add, add-mul, mul-pos}
 use native.Mathlib.Numerals.{add-one}
 use native.Mathlib.Omega.{arith}
 use lib.Arith.{digits-div, digits-mod}
@@ -28,12 +28,12 @@ use Rattle.engine.specs.States.{bitOf, onward, keyOf, Sound, Holds, cell
 use Rattle.engine.specs.Gathering.{Raised, joined, termsAt}
 use Rattle.engine.specs.declared.scan.Scan.{Scan}
 use Rattle.engine.proofs.Rooms.{room-back, room-on, rank-below, walk-room, rank-in}
-use Rattle.engine.proofs.RaiseLaws.{raised-row}
+use Rattle.engine.proofs.RaiseLaws.{raised-to-nothing, raised-twice, raised-row}
 
 -- ---- one way more to share the gaps: the next plane of the walks that end, and the plane before of those that go on
 
 -- a plane lies within its set
-pub plane-fits : (s : Scan) (sound : Sound s) (i : ℕ) → i < s .gaps + 1 → i * s .pixels + s .pixels ≤ s .size
+plane-fits : (s : Scan) (sound : Sound s) (i : ℕ) → i < s .gaps + 1 → i * s .pixels + s .pixels ≤ s .size
 plane-fits s sound i h = omega (arith, rows-fit i 1 (s .gaps + 1) (s .pixels) (omega arith), sound .is-size)
 
 -- a row lies within the plate
@@ -48,7 +48,7 @@ planes-left k i n h =
     let d : (k - i + (i + 1)) * n ≡ (k + 1) * n = ap (λ (m : ℕ). m * n) e in
     omega arith
 
-pub joined-more : (s : Scan) (sound : Sound s) (work : List ℕ) (i ends goes x : ℕ) → i ≤ s .gaps → ends ≡ endsAt s + i * s .pixels →
+joined-more : (s : Scan) (sound : Sound s) (work : List ℕ) (i ends goes x : ℕ) → i ≤ s .gaps → ends ≡ endsAt s + i * s .pixels →
     goes + i * s .pixels ≡ s .size →
     joined work s (i + 1) x ≡ max (min (getD work (ends + x) 0) (getD work (goes - s .pixels + x) 0)) (joined work s i x)
 unfolding joined
@@ -56,6 +56,74 @@ joined-more s sound work i ends goes x h ee eg =
     let a : endsAt s + (i * s .pixels + x) ≡ ends + x = omega arith in
     let b : (s .gaps - i) * s .pixels ≡ goes - s .pixels = omega (arith, planes-left (s .gaps) i (s .pixels) h, sound .is-size) in
     rw (add-one i, a, b)
+
+-- a run, raised to the planes that are joined so far: `ends` is where the next plane of the walks that end begins, and `goes` how many numbers of
+-- those that go on are left
+pub record Joined (s : Scan) (work : List ℕ) (old new : List ℤ) (first past ends goes : ℕ) : Type 0 where
+  pub count : ℕ
+  pub few : count ≤ s .gaps + 1
+  pub at-ends : ends ≡ endsAt s + count * s .pixels
+  pub at-goes : goes + count * s .pixels ≡ s .size
+  pub len : length new ≡ length old
+  pub raised : Raised (joined work s count) old new first past
+
+joined-nothing : (work : List ℕ) (s : Scan) (x : ℕ) → joined work s 0 x ≡ 0
+unfolding joined
+joined-nothing work s x = refl
+
+module _ (s : Scan) (sound : Sound s) (work : List ℕ) (old : List ℤ) (first past : ℕ) where
+  pub some-pixels : 1 ≤ s .pixels
+  some-pixels = rw (sound .is-pixels) (mul-pos (sound .high) (sound .wide))
+
+  pub joined-start : Joined s work old old first past (endsAt s) (s .size)
+  joined-start =
+      record {
+        count = 0;
+        few = omega arith;
+        at-ends = omega arith;
+        at-goes = omega arith;
+        len = refl;
+        raised = raised-to-nothing (joined work s 0) old first past (λ x a b. joined-nothing work s x);
+      }
+
+  module _ (new : List ℤ) (ends goes : ℕ) (j : Joined s work old new first past ends goes) where
+    -- as long as numbers are left, a whole plane is
+    pub plane-left : 0 < goes → j .count < s .gaps + 1
+    plane-left l =
+        ⊎-elim
+        (λ a. let same : j .count ≡ s .gaps + 1 = omega (arith, j .few) in
+        absurd (omega (arith, ap (λ (k : ℕ). k * s .pixels) same, sound .is-size, j .at-goes)))
+        (λ b. b)
+        (le-or-lt (s .gaps + 1) (j .count))
+
+    pub plane-within : 0 < goes → (s .pixels ≤ goes) × (goes ≤ s .size) × (ends + s .pixels ≤ endsAt s + s .size)
+    plane-within l =
+        let p = plane-fits s sound (j .count) (plane-left l) in
+        (omega (arith, j .at-goes), omega (arith, j .at-goes), omega (arith, j .at-ends))
+
+    pub joined-plane : 0 < goes → (newer : List ℤ) → length newer ≡ length new →
+        Raised (λ (x : ℕ). min (getD work (ends + x) 0) (getD work (goes - s .pixels + x) 0)) new newer first past →
+        Joined s work old newer first past (ends + s .pixels) (goes - s .pixels)
+    joined-plane l newer e r =
+        let i = j .count in
+        let on = plane-left l in
+        let p = plane-fits s sound i on in
+        let one = add-mul i 1 (s .pixels) in
+        record {
+          count = i + 1;
+          few = omega arith;
+          at-ends = omega (arith, j .at-ends);
+          at-goes = omega (arith, j .at-goes);
+          len = e ∙ j .len;
+          raised = raised-twice (joined work s i) _ (joined work s (i + 1)) old new newer first past (j .raised) r
+              (λ x u v. joined-more s sound work i ends goes x (omega arith) (j .at-ends) (j .at-goes));
+        }
+
+    pub joined-all : goes ≤ 0 → Raised (joined work s (s .gaps + 1)) old new first past
+    joined-all l =
+        let all : j .count ≡ s .gaps + 1 =
+        ⊎-elim (λ a. omega (arith, j .few)) (λ b. absurd (omega (arith, plane-fits s sound (j .count) b, some-pixels, j .at-goes))) (le-or-lt (s .gaps + 1) (j .count)) in
+        subst (λ (i : ℕ). Raised (joined work s i) old new first past) all (j .raised)
 
 module _ (s : Scan) (sound : Sound s) (work : List ℕ) (plate : List ℤ) (l : ℕ) (l≤ : l ≤ s .steps) where
   abbrev ρ : ℕ → ℕ
@@ -153,8 +221,3 @@ pub raised-level : (xs : List ℤ) (x : ℕ) (v : ℤ) (t : ℕ) → mag v < 327
     key v ≡ max (key (toZ w16 (ofZ w16 (getD xs x (pos 0))))) t → key (toZ w16 (ofZ w16 v)) ≡ max (keyAt xs x) t
 raised-level xs x v t fv fx on e =
     ap key (toZ-ofZ {w = w16} {z = v} (record { sfits = fv })) ∙ level-read (λ u. max (key u) t) xs x (key v) fx on e
-
--- no way yet to share the gaps
-pub joined-none : (work : List ℕ) (s : Scan) (x : ℕ) → joined work s 0 x ≡ 0
-unfolding joined
-joined-none work s x = refl

@@ -39,7 +39,7 @@ pub planes-below : (k H W : ℕ) → k ≤ 8 → W * H ≤ 65536 → (k + 1) * (
 planes-below k H W hk hn = mul-le-mul {n₁ = k + 1} {m₁ = H * W} {n₂ = 9} {m₂ = 65536} (omega arith) (omega (arith, mul-comm H W))
 
 abbrev pub scanBy : ℕ → ℕ → ℕ → ℕ → ℕ → ℕ → ℕ → ℕ → Scan
-scanBy mode W H k index L longest q =
+scanBy mode W H k index steps spare q =
     record {
       mode = mode;
       width = W;
@@ -48,15 +48,15 @@ scanBy mode W H k index L longest q =
       gaps = k;
       size = (k + 1) * (H * W);
       index = index;
-      steps = L - 1;
-      spare = longest - L;
+      steps = steps;
+      spare = spare;
       outer = q * q;
       inner = q;
     }
 
-pub scan-sound : (mode W H k index L longest q : ℕ) → 1 ≤ W → W ≤ 1024 → 1 ≤ H → H ≤ 1024 → k ≤ 8 → index < 4 → 1 ≤ L → L ≤ longest → longest ≤ 2047 →
-    longest ≡ span W H (2 ^ index) → 1 ≤ q → Sound (scanBy mode W H k index L longest q)
-scan-sound mode W H k index L longest q a b c d e f g h i s p =
+pub scan-sound : (mode W H k index L longest steps q : ℕ) → 1 ≤ W → W ≤ 1024 → 1 ≤ H → H ≤ 1024 → k ≤ 8 → index < 4 → 1 ≤ L → L ≤ longest → longest ≤ 2047 →
+    longest ≡ span W H (2 ^ index) → steps ≡ L - 1 → 1 ≤ q → Sound (scanBy mode W H k index steps (longest - L) q)
+scan-sound mode W H k index L longest steps q a b c d e f g h i s t p =
     record {
       wide = a;
       narrow = b;
@@ -66,7 +66,7 @@ scan-sound mode W H k index L longest q a b c d e f g h i s p =
       few = e;
       is-size = refl;
       known = f;
-      long = sym s ∙ (let e : longest ≡ L - 1 + (longest - L) + 1 = omega arith in e);
+      long = sym s ∙ (let e : longest ≡ steps + (longest - L) + 1 = omega arith in e);
       short = omega arith;
       outer-stride = mul-pos p p;
       inner-stride = p;

@@ -27,22 +27,21 @@ fn gather_run(result: &mut [i16], work: &[u16], ends: usize, goes: usize, first:
     }
 }
 
-// The same for every way to share the gaps.
+// The same for every way to share the gaps: plane after plane of the walks that end, from the lowest on,
+// and of those that go on, from the highest down. The loop counts by the latter alone, so that the
+// compiler settles for each run by itself that its numbers do not overlap.
 fn gather_row(result: &mut [i16], work: &[u16], scan: Scan, first: usize, past: usize)
     requires { ⌜ Sound scan ⌝ }
     requires { ⌜ (first ≤ past) × (past ≤ scan .pixels) × (length (now result) ≡ scan .pixels) ⌝ }
     requires { ⌜ endsAt scan + scan .size ≤ length (now work) ⌝ }
     ensures { λ _. ⌜ Raised (joined (now (work .entry)) scan (scan .gaps + 1)) (now (result .entry)) (now (result .exit)) first past ⌝ }
 {
-    let planes = scan.gaps + 1;
     let mut ends = scan.size + scan.size + scan.size;
     let mut goes = scan.size;
-    let mut i = 0;
-    while i < planes {
+    while goes > 0 {
         goes -= scan.pixels;
         gather_run(result, work, ends, goes, first, past);
         ends += scan.pixels;
-        i += 1;
     }
 }
 

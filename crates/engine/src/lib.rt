@@ -1,4 +1,16 @@
-// The filter: opening and closing of a plate by paths with gaps.
+// The filter: opening and closing of a plate by paths with gaps (document 01, section 3).
+//
+// The method is the published decomposition, taken on grey levels: the best path through a pixel is the
+// best walk that ends there joined with the best walk that goes on from there, over all ways to share
+// the steps and the gaps. Both kinds of walk are kept as plane sets in the work buffer: the walks that
+// end grow by one step at a time (sets.rt), those that go on are wanted at ever fewer steps and are made
+// again from two checkpoints (checkpoints.rt). What is found is gathered in the result itself
+// (gather.rt), one direction after the other (direction.rt, sweep.rt), and in the end held below each
+// pixel's own level (finish.rt).
+//
+// A call takes time by the sizes and the setting alone, some 3/2 L^(4/3) steps of (gaps + 1) planes a
+// direction, and about 64 KB of stack, nearly all of it the held rows of the kernel. There is no
+// recursion.
 ghost use mathlib.Core.Path.{_≡_};
 ghost use lib.ListN.{length};
 ghost use Rattle.plate.specs.Opening.{filtered};
@@ -28,6 +40,9 @@ pub use sets::start_at;
 pub use sweep::scan_of;
 pub use sweep::span_of;
 
+// Fills result with the filtered plate, or refuses (1 to 8) before the first store: then both lent
+// buffers are as they were. The work buffer has at least 4 * (gaps + 1) * width * height numbers, and
+// what is left in it is free.
 pub fn filter(
     width: usize,
     height: usize,

@@ -27,6 +27,14 @@ pub fn span_of(width: usize, height: usize, index: usize) -> usize
     width + height - 1
 }
 
+// The steps of a path: it has as many pixels as the length says, gaps included.
+fn steps_of(setting: Setting) -> usize
+    requires { ⌜ 1 ≤ setting .length ⌝ }
+    ensures { λ r. ⌜ r ≡ setting .length - 1 ⌝ }
+{
+    setting.length - 1
+}
+
 // The least number whose cube is not below `steps`, up to 16. The strides of the checkpoints need not be
 // the best ones: any would do.
 fn stride(steps: usize) -> usize
@@ -50,7 +58,7 @@ pub fn scan_of(width: usize, height: usize, setting: Setting, index: usize, long
     ensures { λ r. ⌜ ScanOf r width height setting index ⌝ }
 {
     let pixels = height * width;
-    let steps = setting.length - 1;
+    let steps = steps_of(setting);
     let near = stride(steps);
     Scan {
         mode: setting.mode,

@@ -10,8 +10,8 @@ use Rattle.engine.proofs.sweep.scan_of.Tie as tie
 mul-pixels : tie.Need-mul-pixels
 mul-pixels c = search needs
 
-sub-steps : tie.Need-sub-steps
-sub-steps c = search needs
+steps-of-requires : tie.Need-steps-of-requires
+steps-of-requires c κs = search needs
 
 stride-requires : tie.Need-stride-requires
 stride-requires c κs = search needs
@@ -37,12 +37,12 @@ returns c =
     let s = c .before .before .before .before in
     let a = s .args in
     let q = c .before .before .stride in (
-      scan-sound (a .setting .mode) (a .width) (a .height) (a .setting .gaps) (a .index) (a .setting .length) (a .longest) (q .result)
-          (s .pre .0 .0) (s .pre .0 .1) (s .pre .0 .2) (s .pre .0 .3) (s .pre .1 .0 .1) (s .pre .1 .0 .2) (s .pre .1 .0 .0) (s .pre .1 .1 .2) (s .pre .1 .1 .1) (s .pre .1 .1 .0) (q .ensures .0),
-      record { is-mode = refl; is-width = refl; is-height = refl; is-gaps = refl; is-index = refl; is-steps = refl },
+      scan-sound (a .setting .mode) (a .width) (a .height) (a .setting .gaps) (a .index) (a .setting .length) (a .longest) (c .before .before .before .steps-of .result) (q .result)
+          (s .pre .0 .0) (s .pre .0 .1) (s .pre .0 .2) (s .pre .0 .3) (s .pre .1 .0 .1) (s .pre .1 .0 .2) (s .pre .1 .0 .0) (s .pre .1 .1 .2) (s .pre .1 .1 .1) (s .pre .1 .1 .0) (c .before .before .before .steps-of .ensures) (q .ensures .0),
+      record { is-mode = refl; is-width = refl; is-height = refl; is-gaps = refl; is-index = refl; is-steps = c .before .before .before .steps-of .ensures },
     )
 
 pub scan-of-spec : {M : Type 1} → statement M
 scan-of-spec =
     tie.close
-    (tie.spec mul-pixels sub-steps stride-requires add-t9 mul-t10 sub-t11 mul-t12 returns)
+    (tie.spec mul-pixels steps-of-requires stride-requires add-t9 mul-t10 sub-t11 mul-t12 returns)
