@@ -1,6 +1,6 @@
 -- What holds of a call once every check has passed, and what is made of the gathered levels in the end. These definitions serve contracts inside
 -- the engine only: no public contract cites them.
-use Prim.Native.Nat.{ℕ, _+_, _-_, _*_, _^_, _≤_, _<_, min}
+use Prim.Native.Nat.{ℕ, _+_, _-_, _*_, _≤_, _<_, min}
 use mathlib.Core.Path.{_≡_}
 use mathlib.Core.Bool.{cond}
 use mathlib.Core.List.{List}
@@ -10,7 +10,7 @@ use lib.IntN.{ℤ}
 use lib.Signed.{mag}
 use Rattle.plate.specs.Levels.{level}
 use Rattle.plate.specs.Directions.{member, chosen}
-use Rattle.plate.specs.Paths.{next, span}
+use Rattle.plate.specs.Paths.{next}
 use Rattle.plate.specs.Opening.{levelAt}
 use Rattle.plate.specs.declared.setting.Setting.{Setting}
 use Rattle.theory.proofs.Reversal.{back}

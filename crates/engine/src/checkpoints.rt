@@ -2,7 +2,7 @@
 // earlier sets, and a set is made again from the nearer one: with strides near the square and the
 // first power of the cube root of the steps, that is about 3/2 steps^(4/3) steps for all of them.
 ghost use mathlib.Core.Path.{_≡_};
-ghost use Prim.Native.Nat.{ℕ, _+_, _≤_};
+ghost use Prim.Native.Nat.{_+_, _≤_};
 ghost use lib.ListN.{length};
 ghost use Rattle.engine.specs.States.{Sound, Holds, Apart, Checkpoints, cells, endsAt};
 use crate::scan::Scan;

@@ -1,9 +1,9 @@
 // One direction: every term of its decomposition.
 ghost use mathlib.Core.Path.{_≡_};
 ghost use mathlib.Core.Bool.{true, false};
-ghost use Prim.Native.Nat.{ℕ, _+_, _≤_};
+ghost use Prim.Native.Nat.{_+_, _≤_};
 ghost use lib.ListN.{length};
-ghost use Rattle.engine.specs.States.{Sound, Holds, Apart, Checkpoints, cells, endsAt};
+ghost use Rattle.engine.specs.States.{Sound, Holds, Checkpoints, cells, endsAt};
 ghost use Rattle.engine.specs.Gathering.{Raised, termsAt, bestAt};
 use crate::checkpoints::Held;
 use crate::checkpoints::fetch;

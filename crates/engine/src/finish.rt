@@ -1,6 +1,6 @@
 // The first and the last pass over the result.
 ghost use mathlib.Core.Path.{_≡_};
-ghost use Prim.Native.Nat.{ℕ, _-_, _≤_, min};
+ghost use Prim.Native.Nat.{_-_, min};
 ghost use lib.ListN.{length};
 ghost use Rattle.plate.specs.Levels.{key};
 ghost use Rattle.kernel.specs.Sets.{keyBy};

@@ -1,6 +1,6 @@
 // The terms of the decomposition, gathered into the result: its levels rise to the best walk found.
 ghost use mathlib.Core.Path.{_≡_};
-ghost use Prim.Native.Nat.{ℕ, _+_, _-_, _*_, _≤_, _<_, min, max};
+ghost use Prim.Native.Nat.{ℕ, _+_, _≤_, _<_, min, max};
 ghost use lib.ListN.{length, getD};
 ghost use Rattle.plate.specs.Levels.{key};
 ghost use Rattle.engine.specs.States.{Sound, endsAt};

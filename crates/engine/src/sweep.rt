@@ -1,6 +1,6 @@
 // All chosen directions, one after the other.
 ghost use mathlib.Core.Path.{_≡_};
-ghost use Prim.Native.Nat.{ℕ, _+_, _-_, _*_, _^_, _≤_, _<_};
+ghost use Prim.Native.Nat.{_+_, _-_, _*_, _^_, _≤_, _<_};
 ghost use lib.ListN.{length};
 ghost use Rattle.plate.specs.Paths.{span};
 ghost use Rattle.plate.specs.Opening.{filtered};

@@ -1,12 +1,11 @@
 -- Document 01, section 6: reading a plate's text, in the order in which it is judged: the text's length, the lines up to `height=`, refusals 1 and 14
 -- on the size, then the other lines.
 use Prim.Native.Nat.{ℕ, zero, suc, _+_, _*_}
-use mathlib.Core.Bool.{cond}
 use mathlib.Core.List.{List, [], _∷_, _++_}
 use mathlib.Core.Option.{Option, none, some}
 use lib.Dec.{ltb}
 use lib.ListN.{length}
-use Rattle.plate.specs.Refusals.{Verdict, Verdict.accepted, Verdict.refused, Check, row, judged, sizeCheck}
+use Rattle.plate.specs.Refusals.{Verdict, Verdict.accepted, Verdict.refused, row, judged, sizeCheck}
 use Rattle.plate.specs.declared.setting.Setting.{Setting}
 use Rattle.survey_text.specs.Bytes.{bytes}
 use Rattle.survey_text.specs.Format.{_>>=_ as _then_, number, list, named, nothing}

@@ -1,5 +1,5 @@
 -- `scan_chosen` meets its contract: at each turn one direction of the table more is gathered, and its bit doubles.
-use Prim.Native.Nat.{_-_, _*_, _^_, _≤_}
+use Prim.Native.Nat.{_-_, _*_, _^_, _≤_, _<_}
 use mathlib.Core.Path.{_≡_, refl, _∙_}
 use native.Mathlib.Omega.{arith}
 use lib.ListN.{length}
@@ -25,13 +25,13 @@ loop-holds c = (omega arith, refl, refl, refl, before-none _ _ _ _ _)
 scan-if-chosen-requires : tie.Need-scan-if-chosen-requires Inv-loop μ-loop
 scan-if-chosen-requires c κs =
     let l = c .before .before .before .loop in
-    (accepted-still _ _ _ _ _ _ _ _ (l .inv .2) (l .inv .3) (c .before .before .before .before .before .pre), (c .before .before .loop-test .taken, l .inv .1))
+    (accepted-still _ _ _ _ _ _ _ _ (l .inv .2) (l .inv .3) (c .before .before .before .before .before .pre), (omega (arith, c .before .before .loop-test .taken), l .inv .1))
 
 add-index : tie.Need-add-index Inv-loop μ-loop
 add-index c = omega (arith, c .before .before .before .before .before .before .loop-test .taken)
 
 add-bit : tie.Need-add-bit Inv-loop μ-loop
-add-bit c = omega (arith, c .before .before .before .before .before .before .before .loop .inv .1, bit-below (c .before .before .before .before .before .before .before .loop .index) (c .before .before .before .before .before .before .loop-test .taken))
+add-bit c = omega (arith, c .before .before .before .before .before .before .before .loop .inv .1, bit-below (c .before .before .before .before .before .before .before .loop .index) (omega (arith, c .before .before .before .before .before .before .loop-test .taken)))
 
 loop-less : tie.Need-loop-less Inv-loop μ-loop
 loop-less c = omega (arith, c .before .before .before .before .before .before .loop-test .taken)
@@ -40,7 +40,7 @@ loop-again : tie.Need-loop-again Inv-loop μ-loop
 loop-again c =
     let a = c .before .before .before .before .before .before .before .before .before .args in
     let l = c .before .before .before .before .before .before .before .loop in
-    let on = c .before .before .before .before .before .before .loop-test .taken in
+    let on : l .index < 4 = omega (arith, c .before .before .before .before .before .before .loop-test .taken) in
     let v = c .before .before .before .scan-if-chosen in (
       omega (arith, on),
       bit-doubled (l .index) (l .bit) on (l .inv .1),
