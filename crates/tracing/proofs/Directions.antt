@@ -18,25 +18,10 @@ use Rattle.theory.proofs.Span.{Spans, chosen-bits, crossed-spans, spans-crossed
 use Rattle.tracing.specs.Usable.{usable, FirstUsable}
 use Rattle.engine.proofs.Rooms.{bit-listed}
 
--- ---- bit and span of a direction
+-- ---- the bit of a direction
 
 pub bit-at : (index n : ℕ) → index ≡ n → 2 ^ n ≡ 2 ^ index
 bit-at index n e = ap (λ (i : ℕ). 2 ^ i) (sym e)
-
-module _ (W H index : ℕ) where
-  pub span-north : index ≡ 0 → span W H (2 ^ index) ≡ H
-  unfolding span
-  span-north e = rw e
-
-  pub span-east : index ≡ 1 → span W H (2 ^ index) ≡ W
-  unfolding span
-  span-east e = rw e
-
-  pub span-diagonal : index < 4 → (index ≡ 0 → ⊥) → (index ≡ 1 → ⊥) → span W H (2 ^ index) ≡ W + H - 1
-  unfolding span
-  span-diagonal l n e =
-      below-four (λ (i : ℕ). (i ≡ 0 → ⊥) → (i ≡ 1 → ⊥) → span W H (2 ^ i) ≡ W + H - 1)
-      (λ a b. absurd (a refl)) (λ a b. absurd (b refl)) (λ a b. refl) (λ a b. refl) index l n e
 
 -- the index of a bit of the table
 pub index-at : (bit : ℕ) → List·Memᴰ bit bits → (index : ℕ) × (index < 4) × (bit ≡ 2 ^ index)

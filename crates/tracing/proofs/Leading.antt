@@ -1,21 +1,36 @@
 -- Following a walk that counts, by the numbers of a plane set. At a pixel from which a walk of m + 1 steps leads, some neighbour has a walk of m steps
 -- with the gaps that are left (`neighbour`), its number in the set is what the recursion says, and so it fits; whatever fits goes on so.
 use Prim.Native.Nat.{ℕ, zero, suc, _+_, _-_, _*_, _^_, _≤_, _<_}
-use mathlib.Core.Path.{_≡_}
+use mathlib.Core.Path.{_≡_, sym, ap, _∙_}
 use mathlib.Core.Bool.{Bool}
 use mathlib.Core.List.{List, List·Memᴰ}
 use mathlib.Core.Logic.{⊎-elim}
+use native.Mathlib.Nat.{zero-add}
+use native.Mathlib.Numerals.{add-one}
 use native.Mathlib.Omega.{arith}
+use lib.ListN.{length, getD}
+use lib.IntN.{ℤ, pos}
+use lib.Signed.{mag}
+use mir.Syntax.{w16}
+use mir.Val.{toZ, ofZ}
 use Rattle.basics.proofs.Numbers.{le-or-lt}
+use Rattle.plate.specs.Opening.{levelAt}
+use Rattle.theory.proofs.Opening.{Levels}
 use Rattle.theory.proofs.LevelSets.{under, under-low, under-high, reach}
 use Rattle.theory.proofs.Maxima.{best}
 use Rattle.theory.proofs.Sides.{around, room, Side, side, room-falls}
 use Rattle.theory.proofs.Following.{reach-high, reach-low, reach-last, neighbour}
 use Rattle.tracing.specs.Headings.{bitOf, Known}
 use Rattle.tracing.specs.Choosing.{Fitting, Chosen}
-use Rattle.tracing.specs.Following.{Leads}
+use Rattle.tracing.specs.Following.{Leads, GoesOn}
 use Rattle.tracing.specs.declared.heading.Heading.{Heading}
-use Rattle.engine.proofs.Rooms.{bit-listed}
+use Rattle.tracing.specs.declared.follow.Stand.{Stand}
+use Rattle.tracing.proofs.Modes.{keyBy-bound}
+use Rattle.kernel.specs.Sets.{keyBy}
+use Rattle.kernel.proofs.KeyLaws.{level-read}
+use Rattle.engine.specs.States.{Sound, Holds, bitOf as bitIn, keyOf, cells}
+use Rattle.engine.specs.declared.scan.Scan.{Scan}
+use Rattle.engine.proofs.Rooms.{bit-listed, pixels-is}
 
 -- the gaps that are left after a pixel
 module _ (next : ℕ → List ℕ) (g : ℕ → ℕ) (bounded : (p : ℕ) → g p ≤ 65535) (t : ℕ) where
@@ -71,3 +86,46 @@ module _ (h : Heading) (k : Known h) (g : ℕ → ℕ) (bounded : (p : ℕ) → 
             near = omega (arith, room-falls S p r (f .near), from .near);
           },
         )
+
+-- ---- the same from stand to stand, by the plane set of a scan
+
+-- the heading of a scan
+abbrev pub headingOf : Scan → Bool → Heading
+headingOf s backwards =
+    record { width = s .width; height = s .height; index = s .index; longest = s .steps + s .spare + 1; backwards = backwards }
+
+pub heading-known : (s : Scan) (backwards : Bool) → Sound s → Known (headingOf s backwards)
+heading-known s backwards sound =
+    record { wide = sound .wide; narrow = sound .narrow; low = sound .low; listed = sound .known; is-longest = sym (sound .long) }
+
+module _ (s : Scan) (sound : Sound s) (plate : List ℤ) (levels : Levels plate) (backwards : Bool) (t m : ℕ) (from : Stand)
+    (leads : Leads (s .width) (s .height) (bitIn s) backwards (keyOf s plate) t (s .spare) (m + 1) (from .gaps) (from .place)) where
+  bounded : (p : ℕ) → keyOf s plate p ≤ 65535
+  unfolding keyOf
+  bounded p = keyBy-bound (s .mode) (levelAt plate p) (levels .size p)
+
+  leads′ : Leads (s .width) (s .height) (bitIn s) backwards (keyOf s plate) t (s .spare) (suc m) (from .gaps) (from .place)
+  leads′ = rw (add-one m) at leads
+
+  pub gap-left : under t (keyOf s plate (from .place)) ≤ from .gaps
+  gap-left = spent (around backwards (s .width) (s .height) (bitIn s)) (keyOf s plate) bounded t m (from .gaps) (from .place) (leads′ .counts) .0
+
+  pub goes-on :
+      (work : List ℕ) (left r : ℕ) → left ≡ from .gaps - under t (keyOf s plate (from .place)) → from .gaps ≤ s .gaps →
+      Holds (cells work 0) plate s backwards m → Chosen (λ (q : ℕ). getD work (left * s .pixels + q) 0) (headingOf s backwards) (from .place) m t r →
+      GoesOn (s .width) (s .height) (bitIn s) backwards (keyOf s plate) t (s .spare) m from (record { place = r; gaps = left })
+  goes-on work left r is-left few held c =
+      let n =
+      leads-on (headingOf s backwards) (heading-known s backwards sound) (keyOf s plate) bounded t (s .spare) m (from .gaps) (from .place)
+      (λ (q : ℕ). getD work (left * s .pixels + q) 0) left is-left
+      (λ q on near.
+      ap (λ (i : ℕ). getD work i 0) (sym (zero-add (left * s .pixels + q))) ∙ held .is left q (omega arith) (omega (arith, pixels-is s sound)) near)
+      leads′ r c in
+      record { near = n .0; spent = omega (arith, gap-left); leads = n .1 }
+
+  -- the pixel's key, as the code reads it
+  pub place-key :
+      (k : ℕ) → mag (getD plate (from .place) (pos 0)) < 32768 → from .place < length plate →
+      k ≡ keyBy (s .mode) (toZ w16 (ofZ w16 (getD plate (from .place) (pos 0)))) → k ≡ keyOf s plate (from .place)
+  unfolding keyOf
+  place-key k small on e = level-read (keyBy (s .mode)) plate (from .place) k small on e

@@ -5,3 +5,4 @@ pub mod Trails
 pub mod Directions
 pub mod Searching
 pub mod Modes
+pub mod Noting

@@ -3,6 +3,7 @@ ghost use mathlib.Core.Path.{_≡_};
 ghost use mathlib.Core.Bool.{true};
 ghost use Prim.Native.Nat.{ℕ, _+_, _-_, _≤_, _<_};
 ghost use lib.ListN.{length, getD};
+ghost use Rattle.theory.proofs.Opening.{Levels};
 ghost use Rattle.theory.proofs.LevelSets.{under};
 ghost use Rattle.engine.specs.States.{Sound, Holds, bitOf, keyOf, cells, endsAt};
 ghost use Rattle.tracing.specs.Following.{Leads, GoesOn, Within, Trail, indexAfter, lowAlong};
@@ -46,6 +47,7 @@ fn go_on(
 ) -> Stand
     requires { ⌜ Sound scan ⌝ }
     requires { ⌜ (length (now plate) ≡ scan .pixels) × (scan .size ≤ length (now work)) × (from .gaps ≤ scan .gaps) ⌝ }
+    requires { ⌜ Levels (now plate) ⌝ }
     requires { ⌜ Holds (cells (now work) 0) (now plate) scan backwards m ⌝ }
     requires { ⌜ Leads (scan .width) (scan .height) (bitOf scan) backwards (keyOf scan (now plate)) t (scan .spare) (m + 1) (from .gaps) (from .place) ⌝ }
     ensures { λ r. ⌜ GoesOn (scan .width) (scan .height) (bitOf scan) backwards (keyOf scan (now (plate .entry))) t (scan .spare) m from r ⌝ }
@@ -81,6 +83,7 @@ pub(crate) fn follow(
 )
     requires { ⌜ Sound scan ⌝ }
     requires { ⌜ (length (now plate) ≡ scan .pixels) × (endsAt scan ≤ length (now work)) × (steps ≤ scan .steps) × (gaps ≤ scan .gaps) ⌝ }
+    requires { ⌜ Levels (now plate) ⌝ }
     requires { ⌜ (length (now path) ≤ 65536) × (start < length (now path)) ⌝ }
     requires { ⌜ Within backwards (length (now path)) start steps ⌝ }
     requires { ⌜ Leads (scan .width) (scan .height) (bitOf scan) backwards (keyOf scan (now plate)) t (scan .spare) steps gaps (getD (now path) start 0) ⌝ }

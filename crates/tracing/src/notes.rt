@@ -2,6 +2,7 @@
 ghost use mathlib.Core.Path.{_≡_};
 ghost use Prim.Native.Nat.{ℕ, _+_, _-_, _*_, _≤_, _<_};
 ghost use lib.ListN.{length, getD};
+ghost use Rattle.theory.proofs.Opening.{Levels};
 ghost use Rattle.kernel.specs.Runs.{Between};
 ghost use Rattle.engine.specs.States.{Sound, Apart, bitOf, keyOf, cells};
 ghost use Rattle.tracing.specs.Finding.{Noted};
@@ -36,6 +37,7 @@ pub(crate) fn note_side(
     requires { ⌜ (length (now plate) ≡ scan .pixels) × (x < scan .pixels) × (scan .size ≤ at) × (at + scan .size ≤ length (now work)) ⌝ }
     ensures { λ _. ⌜ Noted (cells (now (work .exit)) at) (scan .width) (scan .height) (bitOf scan) backwards (keyOf scan (now (plate .entry))) (scan .gaps) (scan .spare) (scan .steps) x ⌝ }
     ensures { λ _. ⌜ Apart (now (work .entry)) (now (work .exit)) 0 (at + scan .size) ⌝ }
+    ensures { λ _. ⌜ Levels (now (plate .entry)) ⌝ }
 {
     let planes = scan.gaps + 1;
     engine::start_at(work, plate, scan, 0);

@@ -1,7 +1,6 @@
 // The directions in which a trace can look: chosen, and with paths that are long enough.
 ghost use mathlib.Core.Path.{_≡_};
 ghost use Prim.Native.Nat.{_^_, _≤_, _<_};
-ghost use Rattle.plate.specs.Paths.{span};
 ghost use Rattle.tracing.specs.Usable.{usable, FirstUsable};
 use plate::Setting;
 
@@ -18,20 +17,7 @@ pub(crate) fn bit_of(index: usize) -> usize
     }
 }
 
-// The length of the longest paths in the direction at this index.
-pub(crate) fn span_of(width: usize, height: usize, index: usize) -> usize
-    requires { ⌜ (1 ≤ width) × (width ≤ 1024) × (1 ≤ height) × (height ≤ 1024) × (index < 4) ⌝ }
-    ensures { λ r. ⌜ (r ≡ span width height (2 ^ index)) × (r ≤ 2047) ⌝ }
-{
-    if index == 0 {
-        return height;
-    }
-    if index == 1 {
-        return width;
-    }
-    width + height - 1
-}
-
+// Whether the direction at this index is chosen and has paths of the setting's length.
 pub(crate) fn is_usable(width: usize, height: usize, setting: Setting, index: usize) -> bool
     requires { ⌜ (1 ≤ width) × (width ≤ 1024) × (1 ≤ height) × (height ≤ 1024) × (index < 4) ⌝ }
     ensures { λ r. ⌜ r ≡ usable width height setting (2 ^ index) ⌝ }
@@ -39,7 +25,7 @@ pub(crate) fn is_usable(width: usize, height: usize, setting: Setting, index: us
     if setting.directions / bit_of(index) % 2 != 1 {
         return false;
     }
-    setting.length <= span_of(width, height, index)
+    setting.length <= engine::span_of(width, height, index)
 }
 
 // The index of the first usable direction, or past the table where there is none.
