@@ -11,7 +11,9 @@ use Rattle.basics.proofs.Numbers.{le-or-lt}
 use Rattle.theory.proofs.LevelSets.{under}
 use Rattle.theory.proofs.Recorded.{lowFrom, low-last, low-same}
 use Rattle.theory.proofs.Sides.{around}
-use Rattle.tracing.specs.Following.{indexAfter, Within, Behind, Trail, lowAlong}
+use Rattle.tracing.specs.Following.{Leads, GoesOn, indexAfter, Within, Behind, Trail, lowAlong}
+use Rattle.tracing.specs.declared.follow.Stand.{Stand}
+use Rattle.tracing.proofs.Leading.{spent-last}
 
 -- ---- the indices of a trail
 
@@ -102,3 +104,56 @@ low-along-same true g t path size start s q w =
     low-same g t (set path (start - s) q) path (start + 1 - s) s (λ i l u. getD-set-other path (start - s) i q 0 (λ e. omega arith))
 low-along-same false g t path size start s q w =
     low-same g t (set path (start + s) q) path start s (λ i l u. getD-set-other path (start + s) i q 0 (λ e. omega arith))
+
+-- ---- a walk on its trail
+
+module _ (W H bit : ℕ) (b : Bool) (g : ℕ → ℕ) (t spare : ℕ) (old : List ℕ) (start gaps : ℕ) where
+  -- after s steps, with m steps to go: the trail is written as far as the stand, and the gaps left there were not spent on the pixels before it
+  pub record OnTrail (path : List ℕ) (s m : ℕ) (stand : Stand) : Type 0 where
+    pub trail : Trail W H bit b old path start s
+    pub here : stand .place ≡ getD path (indexAfter b start s) 0
+    pub few : lowAlong b g t path start s + stand .gaps ≤ gaps
+    pub leads : Leads W H bit b g t spare m (stand .gaps) (stand .place)
+
+  pub trail-starts :
+      (m : ℕ) → Leads W H bit b g t spare m gaps (getD old start 0) → OnTrail old 0 m (record { place = getD old start 0; gaps = gaps })
+  trail-starts m leads =
+      record {
+        trail = trail-none W H bit b old start;
+        here = ap (λ (i : ℕ). getD old i 0) (sym (index-first b start));
+        few = omega (arith, low-along-none b g t old start);
+        leads = leads;
+      }
+
+  pub trail-goes-on :
+      (path : List ℕ) (s s′ m i : ℕ) (from to : Stand) → s′ ≡ s + 1 → i ≡ indexAfter b start (s + 1) → Within b (length old) start (s + 1) →
+      OnTrail path s (m + 1) from → GoesOn W H bit b g t spare m from to → OnTrail (set path i (to .place)) s′ m to
+  trail-goes-on path s s′ m i from to es ei within d go =
+      rw (es, ei)
+      (record {
+        trail = trail-more W H bit b old start path s (to .place) within (d .trail) (rw (← d .here) (go .near));
+        here = sym (last-written W H bit b old start path s (to .place) within (d .trail));
+        few =
+            omega (
+              arith,
+              d .few,
+              go .spent,
+              low-along-same b g t path (length old) start (s + 1) (to .place) within,
+              low-along-more b g t path (length old) start s (within-less b (length old) start (s + 1) s within (omega arith)),
+              ap (λ (p : ℕ). under t (g p)) (d .here),
+            );
+        leads = go .leads;
+      })
+
+  -- the last pixel may be low where a gap is left
+  pub trail-ends :
+      ((p : ℕ) → g p ≤ 65535) → (path : List ℕ) (s : ℕ) (stand : Stand) → Within b (length old) start s → OnTrail path s 0 stand →
+      lowAlong b g t path start (s + 1) ≤ gaps
+  trail-ends bounded path s stand within d =
+      omega (
+        arith,
+        d .few,
+        low-along-more b g t path (length old) start s within,
+        ap (λ (p : ℕ). under t (g p)) (d .here),
+        spent-last (around b W H bit) g bounded t (stand .gaps) (stand .place) (d .leads .counts),
+      )
