@@ -98,11 +98,14 @@ pub heading-known : (s : Scan) (backwards : Bool) → Sound s → Known (heading
 heading-known s backwards sound =
     record { wide = sound .wide; narrow = sound .narrow; low = sound .low; listed = sound .known; is-longest = sym (sound .long) }
 
+pub keys-bounded : (s : Scan) (plate : List ℤ) → Levels plate → (p : ℕ) → keyOf s plate p ≤ 65535
+unfolding keyOf
+keys-bounded s plate levels p = keyBy-bound (s .mode) (levelAt plate p) (levels .size p)
+
 module _ (s : Scan) (sound : Sound s) (plate : List ℤ) (levels : Levels plate) (backwards : Bool) (t m : ℕ) (from : Stand)
     (leads : Leads (s .width) (s .height) (bitIn s) backwards (keyOf s plate) t (s .spare) (m + 1) (from .gaps) (from .place)) where
   bounded : (p : ℕ) → keyOf s plate p ≤ 65535
-  unfolding keyOf
-  bounded p = keyBy-bound (s .mode) (levelAt plate p) (levels .size p)
+  bounded = keys-bounded s plate levels
 
   leads′ : Leads (s .width) (s .height) (bitIn s) backwards (keyOf s plate) t (s .spare) (suc m) (from .gaps) (from .place)
   leads′ = rw (add-one m) at leads

@@ -36,7 +36,7 @@ notes-fit s sound m l =
     omega (
       arith,
       rows-fit m 1 (s .pixels) (s .gaps + 1)
-      (omega (arith, sound .long, sound .is-pixels, span-pixels (s .width) (s .height) (s .index) (sound .wide) (sound .high) (sound .known))),
+          (omega (arith, sound .long, sound .is-pixels, span-pixels (s .width) (s .height) (s .index) (sound .wide) (sound .high) (sound .known))),
       sound .is-size,
       mul-comm (s .gaps + 1) (s .pixels),
     )

@@ -1,7 +1,7 @@
 -- A trail that is written into the buffer pixel by pixel: one pixel more keeps it a trail, and the gaps left pay for the pixel that was left behind.
 use Prim.Native.Nat.{ℕ, zero, suc, _+_, _-_, _*_, _≤_, _<_}
 use mathlib.Core.Path.{_≡_, refl, sym, ap, _∙_}
-use mathlib.Core.Bool.{Bool, true, false}
+use mathlib.Core.Bool.{Bool, true, false, true≢false}
 use mathlib.Core.List.{List, List·Memᴰ}
 use mathlib.Core.Logic.{⊎-elim}
 use native.Mathlib.Omega.{arith}
@@ -38,6 +38,11 @@ index-within false size start s w = w
 pub within-less : (b : Bool) (size start s n : ℕ) → Within b size start s → n ≤ s → Within b size start n
 within-less true size start s n w l = (omega arith, w .1)
 within-less false size start s n w l = omega arith
+
+-- there is an index before one that is not the last of a trail back
+pub index-left : (b : Bool) (size start s n : ℕ) → Within b size start s → n < s → b ≡ true → 1 ≤ indexAfter b start n
+index-left true size start s n w l e = omega arith
+index-left false size start s n w l e = absurd (true≢false (sym e))
 
 -- an earlier index is another one
 index-other : (b : Bool) (size start s n : ℕ) → Within b size start s → n < s → indexAfter b start n ≡ indexAfter b start s → ⊥

@@ -15,7 +15,7 @@ use Rattle.engine.proofs.sets.fill_keys.Statement.{statement}
 use Rattle.engine.proofs.sets.fill_keys.Tie as tie
 
 abbrev Inv-loop : tie.InvT-loop
-Inv-loop set₀ plate mode p₀ set p = 
+Inv-loop set₀ plate mode p₀ set p =
     (p ≤ length plate)
     × Between (λ (k : ℕ). keyBy mode (levelAt plate k)) set₀ set 0 p
     × ((k : ℕ) → k < p → mag (levelAt plate k) < 32768)

@@ -37,8 +37,7 @@ start-at-requires c κs =
 note-requires : tie.Need-note-requires Inv-loop μ-loop
 note-requires c κs =
     let s = c .before .before .before .before .before .before .before in
-    let a = s .args in
-    (
+    let a = s .args in (
       s .pre .1 .1,
       omega (arith, s .pre .0 .is-size, s .pre .1),
       omega (arith, notes-fit (a .scan) (s .pre .0) 0 (omega arith), s .pre .1, c .before .before .before .start-at .kept .0),
