@@ -76,7 +76,7 @@ module _ (W H : ℕ) (s : Setting) (x : ℕ) (on : x < W * H) (long : 1 ≤ s .l
   none-crossing l c =
       let p = crossed-spans W H (s .directions) (s .length) x c in
       let i = index-at (p .bit) (chosen-bits (s .directions) (p .bit) (p .in-set)) in
-      first .none l (i .0) (i .1)
+      first .none (i .0) (omega (arith, i .1))
       (chosen-usable W H s (i .0) (subst (λ (b : ℕ). List·Memᴰ b (chosen (s .directions))) (i .2) (p .in-set))
       (subst (λ (b : ℕ). s .length ≤ span W H b) (i .2) (p .long)))
 

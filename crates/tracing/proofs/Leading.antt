@@ -102,6 +102,13 @@ pub keys-bounded : (s : Scan) (plate : List ℤ) → Levels plate → (p : ℕ) 
 unfolding keyOf
 keys-bounded s plate levels p = keyBy-bound (s .mode) (levelAt plate p) (levels .size p)
 
+-- the key of a pixel, as the code reads its level
+pub key-read :
+    (s : Scan) (plate : List ℤ) (p k : ℕ) → mag (getD plate p (pos 0)) < 32768 → p < length plate →
+    k ≡ keyBy (s .mode) (toZ w16 (ofZ w16 (getD plate p (pos 0)))) → k ≡ keyOf s plate p
+unfolding keyOf
+key-read s plate p k small on e = level-read (keyBy (s .mode)) plate p k small on e
+
 module _ (s : Scan) (sound : Sound s) (plate : List ℤ) (levels : Levels plate) (backwards : Bool) (t m : ℕ) (from : Stand)
     (leads : Leads (s .width) (s .height) (bitIn s) backwards (keyOf s plate) t (s .spare) (m + 1) (from .gaps) (from .place)) where
   bounded : (p : ℕ) → keyOf s plate p ≤ 65535
@@ -125,10 +132,3 @@ module _ (s : Scan) (sound : Sound s) (plate : List ℤ) (levels : Levels plate)
       ap (λ (i : ℕ). getD work i 0) (sym (zero-add (left * s .pixels + q))) ∙ held .is left q (omega arith) (omega (arith, pixels-is s sound)) near)
       leads′ r c in
       record { near = n .0; spent = omega (arith, gap-left); leads = n .1 }
-
-  -- the pixel's key, as the code reads it
-  pub place-key :
-      (k : ℕ) → mag (getD plate (from .place) (pos 0)) < 32768 → from .place < length plate →
-      k ≡ keyBy (s .mode) (toZ w16 (ofZ w16 (getD plate (from .place) (pos 0)))) → k ≡ keyOf s plate (from .place)
-  unfolding keyOf
-  place-key k small on e = level-read (keyBy (s .mode)) plate (from .place) k small on e

@@ -6,3 +6,4 @@ pub mod Directions
 pub mod Searching
 pub mod Modes
 pub mod Noting
+pub mod Finding

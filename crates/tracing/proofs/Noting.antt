@@ -85,3 +85,8 @@ module _ (s : Scan) (sound : Sound s) (plate : List ℤ) (backwards : Bool) (x :
             rw e (rw f (noted-number (m + 1) to mid new held b j k (rw e at near))))
             (le-or-lt l m);
       }
+
+  -- a change before them leaves the notes alone
+  pub noted-beyond : (old new : List ℕ) (at lo hi m : ℕ) → Apart old new lo hi → hi ≤ at → Notes old at m → Notes new at m
+  noted-beyond old new at lo hi m a h noted =
+      record { is = λ l j u k near. a .over (at + (l * (s .gaps + 1) + j)) (omega arith) ∙ noted .is l j u k near }

@@ -17,7 +17,7 @@ use Rattle.theory.proofs.LevelSets.{reach, reach-none}
 use Rattle.theory.proofs.Sides.{around, room, Side, side}
 use Rattle.theory.proofs.Terms.{term}
 use Rattle.tracing.specs.Following.{Leads}
-use Rattle.tracing.specs.Finding.{Noted, sharedAt, termAt, Possible, FromNotes, RowSearched, Searched, Attained}
+use Rattle.tracing.specs.Finding.{Noted, sharedAt, termAt, Possible, FromNotes, RowSearched, Searched, Attained, FoundIn}
 use Rattle.tracing.specs.declared.find.Found.{Found}
 use Rattle.tracing.specs.declared.find.Notes.{Notes}
 use Rattle.engine.proofs.Rooms.{bit-listed}
@@ -97,12 +97,9 @@ module _ (terms : ℕ → ℕ → ℕ) (steps gaps spare rank index : ℕ) (old 
 
 -- ---- what the notes say
 
-module _ (W H m k : ℕ) (g : ℕ → ℕ) (x index : ℕ) (listed : index < 4) (on : x < W * H) (long : m < span W H (2 ^ index)) where
+module _ (W H m k spare : ℕ) (g : ℕ → ℕ) (x index : ℕ) (listed : index < 4) (on : x < W * H) (long : span W H (2 ^ index) ≡ m + spare + 1) where
   abbrev bit : ℕ
   bit = 2 ^ index
-
-  abbrev spare : ℕ
-  spare = span W H bit - 1 - m
 
   abbrev place : ℕ
   place = rank W H bit x
@@ -139,7 +136,7 @@ module _ (W H m k : ℕ) (g : ℕ → ℕ) (x index : ℕ) (listed : index < 4) 
         let f = goes .is (m - l) (k - i) (omega arith) (omega arith) (omega (arith, p .of-path, p .behind)) in
         rw (is-steps, is-gaps, is-own, add-assoc (n .ends) (l * (k + 1)) i, add-assoc (n .goes) ((m - l) * (k + 1)) (k - i), e, f)
 
-    pub found-attained : (new : Found) → FromNotes (termAt work n own) m k spare place index new → Attained W H m k g x bit (new .key) (new .before) (new .gaps)
+    found-attained : (new : Found) → FromNotes (termAt work n own) m k spare place index new → Attained W H m k spare g x bit (new .key) (new .before) (new .gaps)
     unfolding around
     found-attained new f =
         let p = f .possible in
@@ -158,7 +155,7 @@ module _ (W H m k : ℕ) (g : ℕ → ℕ) (x index : ℕ) (listed : index < 4) 
           };
         }
 
-    pub none-better :
+    none-better :
         (old new : Found) → Searched (termAt work n own) m k spare place index (m + 1) old new → (l i : ℕ) → l ≤ m → i ≤ k →
         min (g x) (term W H bit m k g x l i) ≤ new .key
     none-better old new d l i u v =
@@ -171,16 +168,22 @@ module _ (W H m k : ℕ) (g : ℕ → ℕ) (x index : ℕ) (listed : index < 4) 
         (λ a. omega (arith, term-none l i u (λ p. omega (arith, p .behind))))
         (le-or-lt l place)
 
--- a path that counts at the lowest key: there is one wherever it has room
-pub lowest-attained :
-    (W H m k : ℕ) (g : ℕ → ℕ) (x index l : ℕ) → index < 4 → x < W * H → m < span W H (2 ^ index) → l ≡ min (rank W H (2 ^ index) x) m →
-    Attained W H m k g x (2 ^ index) 0 l 0
-lowest-attained W H m k g x index l listed on long e =
-    let r = rank-below W H x index listed on in
-    record {
-      of-path = omega arith;
-      few = omega arith;
-      own = omega arith;
-      to-x = record { on = on; counts = omega arith; roomy = omega arith; near = omega arith };
-      from-x = record { on = on; counts = omega arith; roomy = omega arith; near = omega arith };
-    }
+    pub searched-found : (old new : Found) → Searched (termAt work n own) m k spare place index (m + 1) old new → FoundIn W H m k spare g x index old new
+    searched-found old new d =
+        record {
+          not-below = d .not-below;
+          source = ⊎-elim inl (λ f. inr (f .is-index, found-attained new f)) (d .source);
+          best = none-better old new d;
+        }
+
+  -- a path that counts at the lowest key: there is one wherever it has room
+  pub lowest-attained : (l : ℕ) → l ≡ min place m → Attained W H m k spare g x bit 0 l 0
+  lowest-attained l e =
+      let r = rank-below W H x index listed on in
+      record {
+        of-path = omega arith;
+        few = omega arith;
+        own = omega arith;
+        to-x = record { on = on; counts = omega arith; roomy = omega arith; near = omega arith };
+        from-x = record { on = on; counts = omega arith; roomy = omega arith; near = omega arith };
+      }

@@ -11,7 +11,7 @@ use Rattle.plate.specs.declared.setting.Setting.{Setting}
 unfoldable pub usable : ℕ → ℕ → Setting → ℕ → Bool
 usable W H s bit = member (s .directions) bit && leb (s .length) (span W H bit)
 
--- r is the table's index of such a direction, or past the table where there is none
+-- r is the table's index of the first such direction, or past the table where there is none
 pub record FirstUsable (W H : ℕ) (s : Setting) (r : ℕ) : Type 0 where
   pub passes : r < 4 → usable W H s (2 ^ r) ≡ true
-  pub none : 4 ≤ r → (index : ℕ) → index < 4 → usable W H s (2 ^ index) ≡ true → ⊥
+  pub none : (index : ℕ) → index < r → usable W H s (2 ^ index) ≡ true → ⊥

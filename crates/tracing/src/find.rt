@@ -1,8 +1,21 @@
 // The best path through the picked pixel, by numbers.
 ghost use mathlib.Core.Path.{_≡_};
-ghost use Prim.Native.Nat.{ℕ, _+_, _-_, _*_, _≤_, _<_, min};
+ghost use mathlib.Core.Bool.{true};
+ghost use Prim.Native.Nat.{ℕ, _+_, _-_, _*_, _^_, _≤_, _<_, min};
 ghost use lib.ListN.{length};
-ghost use Rattle.tracing.specs.Finding.{sharedAt, termAt, RowSearched, Searched};
+ghost use Rattle.plate.specs.Paths.{span};
+ghost use Rattle.theory.proofs.Ranks.{rank};
+ghost use Rattle.theory.proofs.Opening.{Levels};
+ghost use Rattle.engine.specs.States.{Sound, keyOf, endsAt};
+ghost use Rattle.engine.specs.Finishing.{Accepted};
+ghost use Rattle.tracing.specs.Usable.{usable, FirstUsable};
+ghost use Rattle.tracing.specs.Finding.{sharedAt, termAt, RowSearched, Searched, Attained, FoundIn, FoundAt, BestOf, keysBy};
+use crate::heading::Heading;
+use crate::heading::rank_of;
+use crate::notes::note_side;
+use crate::usable::is_usable;
+use engine::Scan;
+use plate::Setting;
 
 // A path through the picked pixel: the index of its direction, the key at which it counts, and how many
 // of its steps and of its gaps lie before the pixel.
@@ -95,4 +108,102 @@ fn over(a: usize, b: usize) -> usize
     ensures { λ r. ⌜ r ≡ a - b ⌝ }
 {
     if a < b { 0 } else { a - b }
+}
+
+// All paths of one direction through the pixel x.
+fn find_in(work: &mut [u16], plate: &[i16], scan: Scan, x: usize, found: Found) -> Found
+    requires { ⌜ Sound scan ⌝ }
+    requires { ⌜ (length (now plate) ≡ scan .pixels) × (x < scan .pixels) × (endsAt scan ≤ length (now work)) ⌝ }
+    ensures { λ r. ⌜ FoundIn (scan .width) (scan .height) (scan .steps) (scan .gaps) (scan .spare) (keyOf scan (now (plate .entry))) x (scan .index) found r ⌝ }
+    ensures { λ _. ⌜ Levels (now (plate .entry)) ⌝ }
+{
+    let size = scan.size;
+    let heading = Heading {
+        width: scan.width,
+        height: scan.height,
+        index: scan.index,
+        longest: scan.steps + scan.spare + 1,
+        backwards: true,
+    };
+    let notes = Notes {
+        ends: size,
+        goes: size + size,
+        steps: scan.steps,
+        gaps: scan.gaps,
+    };
+    let own = engine::key_by(scan.mode, plate[x]);
+    let rank = rank_of(heading, x);
+    note_side(work, plate, scan, false, x, size + size);
+    note_side(work, plate, scan, true, x, size);
+    search(work, notes, own, scan.index, rank, scan.spare, found)
+}
+
+// The same by the direction's index, for a usable one.
+fn find_at(
+    work: &mut [u16],
+    plate: &[i16],
+    width: usize,
+    height: usize,
+    setting: Setting,
+    index: usize,
+    x: usize,
+    found: Found,
+) -> Found
+    requires { ⌜ Accepted width height setting (length (now plate)) (width * height) (length (now work)) ⌝ }
+    requires { ⌜ (x < width * height) × (index < 4) × (usable width height setting (2 ^ index) ≡ true) ⌝ }
+    ensures { λ r. ⌜ FoundAt width height setting (now (plate .entry)) x index found r ⌝ }
+    ensures { λ _. ⌜ Levels (now (plate .entry)) ⌝ }
+{
+    let longest = engine::span_of(width, height, index);
+    let scan = engine::scan_of(width, height, setting, index, longest);
+    find_in(work, plate, scan, x, found)
+}
+
+// A path in a usable direction, at the lowest key, where each counts.
+fn lowest(width: usize, height: usize, setting: Setting, index: usize, x: usize) -> Found
+    requires { ⌜ (1 ≤ width) × (width ≤ 1024) × (1 ≤ height) × (height ≤ 1024) × (1 ≤ setting .length) ⌝ }
+    requires { ⌜ (x < width * height) × (index < 4) × (usable width height setting (2 ^ index) ≡ true) ⌝ }
+    ensures { λ r. ⌜ (r .index ≡ index) × (r .key ≡ 0) × (r .before ≡ min (rank width height (2 ^ index) x) (setting .length - 1)) × (r .gaps ≡ 0) ⌝ }
+{
+    let heading = Heading {
+        width: width,
+        height: height,
+        index: index,
+        longest: engine::span_of(width, height, index),
+        backwards: true,
+    };
+    Found {
+        index: index,
+        key: 0,
+        before: least(rank_of(heading, x), setting.length - 1),
+        gaps: 0,
+    }
+}
+
+// The best path through x in all usable directions, of which the first is given.
+pub(crate) fn find(
+    work: &mut [u16],
+    plate: &[i16],
+    width: usize,
+    height: usize,
+    setting: Setting,
+    first: usize,
+    x: usize,
+) -> Found
+    requires { ⌜ Accepted width height setting (length (now plate)) (width * height) (length (now work)) ⌝ }
+    requires { ⌜ (x < width * height) × (first < 4) ⌝ }
+    requires { ⌜ FirstUsable width height setting first ⌝ }
+    ensures { λ r. ⌜ BestOf width height setting (now (plate .entry)) x 4 r ⌝ }
+    ensures { λ _. ⌜ Levels (now (plate .entry)) ⌝ }
+{
+    let low = lowest(width, height, setting, first, x);
+    let mut found = find_at(work, plate, width, height, setting, first, x, low);
+    let mut index = first + 1;
+    while index < plate::DIRECTIONS {
+        if is_usable(width, height, setting, index) {
+            found = find_at(work, plate, width, height, setting, index, x, found);
+        }
+        index += 1;
+    }
+    found
 }

@@ -6,7 +6,7 @@ use borrow.Author.Needs.{needs}
 use Rattle.basics.proofs.Numbers.{rows-fit}
 use Rattle.theory.proofs.LevelSets.{under}
 use Rattle.engine.proofs.Rooms.{pixels-is}
-use Rattle.tracing.proofs.Leading.{heading-known, gap-left, goes-on, place-key}
+use Rattle.tracing.proofs.Leading.{heading-known, gap-left, goes-on, key-read}
 use Rattle.tracing.proofs.follow.go_on.Statement.{statement}
 use Rattle.tracing.proofs.follow.go_on.Tie as tie
 
@@ -30,7 +30,7 @@ gaps-after-requires c κs =
     let s = c .before .before .before .before in
     let a = s .args in
     let leads = s .pre .1 .1 .1 .1 in
-    let key = place-key (a .scan) (s .pre .0) (a .plate .now) (s .pre .1 .1 .0) (a .backwards) (a .t) (a .m) (a .from) leads (c .key-by .result) (c .before .key-by-arg .given) (omega (arith, leads .on, pixels-is (a .scan) (s .pre .0), s .pre .1 .0)) (c .key-by .ensures) in
+    let key = key-read (a .scan) (a .plate .now) (a .from .place) (c .key-by .result) (c .before .key-by-arg .given) (omega (arith, leads .on, pixels-is (a .scan) (s .pre .0), s .pre .1 .0)) (c .key-by .ensures) in
     omega (arith, ap (under (a .t)) key, gap-left (a .scan) (s .pre .0) (a .plate .now) (s .pre .1 .1 .0) (a .backwards) (a .t) (a .m) (a .from) leads)
 
 mul-choose : tie.Need-mul-choose
@@ -71,7 +71,7 @@ returns c =
     let s = c .before .before .before .before .before .before .before in
     let a = s .args in
     let leads = s .pre .1 .1 .1 .1 in
-    let key = place-key (a .scan) (s .pre .0) (a .plate .now) (s .pre .1 .1 .0) (a .backwards) (a .t) (a .m) (a .from) leads (c .before .before .before .key-by .result) (c .before .before .before .before .key-by-arg .given) (omega (arith, leads .on, pixels-is (a .scan) (s .pre .0), s .pre .1 .0)) (c .before .before .before .key-by .ensures) in
+    let key = key-read (a .scan) (a .plate .now) (a .from .place) (c .before .before .before .key-by .result) (c .before .before .before .before .key-by-arg .given) (omega (arith, leads .on, pixels-is (a .scan) (s .pre .0), s .pre .1 .0)) (c .before .before .before .key-by .ensures) in
     let left = c .before .before .gaps-after in
     let is-left = left .ensures ∙ ap (λ (k : ℕ). a .from .gaps - under (a .t) k) key in
     goes-on (a .scan) (s .pre .0) (a .plate .now) (s .pre .1 .1 .0) (a .backwards) (a .t) (a .m) (a .from) leads (a .work .now) (left .result) (c .choose .result)

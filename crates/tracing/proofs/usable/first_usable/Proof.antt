@@ -23,7 +23,7 @@ returns : tie.Need-returns Inv-loop μ-loop
 returns c =
     record {
       passes = λ l. sym (c .before .is-usable .ensures) ∙ c .if1 .taken;
-      none = λ l. absurd (omega (arith, c .before .before .loop-test .taken));
+      none = c .before .before .before .loop .inv .1 .none;
     }
 
 add-index : tie.Need-add-index Inv-loop μ-loop
@@ -39,7 +39,7 @@ returns-2 : tie.Need-returns-2 Inv-loop μ-loop
 returns-2 c =
     record {
       passes = λ l. absurd (omega arith);
-      none = λ l i h u. c .before .loop .inv .1 .none i (omega arith) u;
+      none = c .before .loop .inv .1 .none;
     }
 
 pub first-usable-spec : {M : Type 1} → statement M
