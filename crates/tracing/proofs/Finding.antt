@@ -14,6 +14,7 @@ use Rattle.engine.specs.Finishing.{ScanOf}
 use Rattle.engine.specs.declared.scan.Scan.{Scan}
 use Rattle.tracing.specs.Usable.{usable, FirstUsable}
 use Rattle.tracing.specs.Finding.{Attained, FoundIn, FoundAt, BestOf, keysBy}
+use Rattle.tracing.specs.Drawing.{Drawn}
 use Rattle.tracing.specs.declared.find.Found.{Found}
 use Rattle.tracing.proofs.Directions.{usable-long}
 
@@ -34,6 +35,17 @@ module _ (r : Scan) (W H : ℕ) (s : Setting) (index : ℕ) (sound : Sound r) (o
       FoundAt W H s f x index old new
   scan-found f x old new d =
       rw (scan-keys f, scan-spare, of .is-width, of .is-height, of .is-steps, of .is-gaps, of .is-index) at d
+
+  pub scan-attained :
+      (f : List ℤ) (x t before gaps : ℕ) → Attained W H (s .length - 1) (s .gaps) (span W H (2 ^ index) - s .length) (keysBy (s .mode) f) x (2 ^ index) t before gaps →
+      Attained (r .width) (r .height) (r .steps) (r .gaps) (r .spare) (keyOf r f) x (bitOf r) t before gaps
+  scan-attained f x t before gaps a =
+      rw (scan-keys f, scan-spare, of .is-width, of .is-height, of .is-steps, of .is-gaps, of .is-index) a
+
+  pub scan-drawn :
+      (f : List ℤ) (x t : ℕ) (path : List ℕ) → Drawn (r .width) (r .height) (bitOf r) (keyOf r f) t (r .steps) (r .gaps) x path →
+      Drawn W H (2 ^ index) (keysBy (s .mode) f) t (s .length - 1) (s .gaps) x path
+  scan-drawn f x t path d = rw (scan-keys f, of .is-width, of .is-height, of .is-steps, of .is-gaps, of .is-index) at d
 
 -- ---- one direction after the other
 

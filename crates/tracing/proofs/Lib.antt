@@ -7,3 +7,5 @@ pub mod Searching
 pub mod Modes
 pub mod Noting
 pub mod Finding
+pub mod Drawing
+pub mod Showing

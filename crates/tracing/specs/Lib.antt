@@ -3,3 +3,4 @@ pub mod Choosing
 pub mod Following
 pub mod Usable
 pub mod Finding
+pub mod Drawing
