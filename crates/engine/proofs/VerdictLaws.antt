@@ -13,6 +13,7 @@ use Rattle.plate.specs.Limits.{maxLength, maxGaps}
 use Rattle.plate.specs.Refusals.{Verdict, Verdict.accepted, Verdict.refused, Check, judged, badSize, badLength, badGaps, inputCheck, resultCheck, workCheck, settingChecks, settingVerdict, filterVerdict}
 use Rattle.plate.specs.declared.setting.Setting.{Setting}
 use Rattle.plate.proofs.Sizes.{good-size}
+use Rattle.plate.proofs.Verdicts.{refused-first}
 use Rattle.engine.specs.Finishing.{Accepted}
 
 -- ---- checks in a row
@@ -21,17 +22,7 @@ clash : {A B : Type 0} {a : A} {n p : ℕ} → accepted a ≡ refused n p → B
 clash e = absurd (let z : _≡_ {A = ℕ} 0 1 = cc in omega arith)
 
 module _ {A B : Type 0} (b : B) (ds : List Check) where
-  -- those that come first decide where they refuse, whatever the call returns
-  refused-first : (a : A) (cs : List Check) (n p : ℕ) → judged cs a ≡ refused n p → judged (cs ++ ds) b ≡ refused n p
-  unfolding judged
-  refused-first a [] n p e = clash e
-  refused-first a (c ∷ cs) n p e =
-      ⊎-elim
-      (λ t. let f : _≡_ {A = Verdict A} (refused (c .number) (c .place)) (refused n p) = rw t at e in rw t (cc))
-      (λ t. let f : judged cs a ≡ refused n p = rw t at e in rw t (refused-first a cs n p f))
-      (true-or-false (c .refuses))
-
-  -- and the others where they pass
+  -- where the checks that come first pass, the others decide
   passed-first : (a a′ : A) (cs : List Check) → judged cs a ≡ accepted a′ → judged (cs ++ ds) b ≡ judged ds b
   unfolding judged
   passed-first a a′ [] e = refl
@@ -66,7 +57,7 @@ module _ (W H : ℕ) (s : Setting) (plate result work : ℕ) where
   module _ (good : badSize W H ≡ false) where
     pub refused-setting : (n p : ℕ) → refused n p ≡ settingVerdict s → refused n p ≡ filterVerdict W H s plate result work
     unfolding filterVerdict judged settingVerdict
-    refused-setting n p e = rw good (sym (refused-first tt rest s (settingChecks s) n p (sym e)))
+    refused-setting n p e = rw good (sym (refused-first s tt (settingChecks s) rest n p (sym e)))
 
     module _ (s′ : Setting) (valid : accepted s′ ≡ settingVerdict s) where
       rest-decides : judged rest tt ≡ filterVerdict W H s plate result work

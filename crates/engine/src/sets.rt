@@ -4,6 +4,7 @@ ghost use mathlib.Core.Bool.{Bool};
 ghost use Prim.Native.Nat.{ℕ, _+_, _-_, _≤_, _<_};
 ghost use lib.ListN.{length, getD};
 ghost use Rattle.plate.specs.Opening.{levelAt};
+ghost use Rattle.theory.proofs.Opening.{Levels};
 ghost use Rattle.kernel.specs.Sets.{keyBy};
 ghost use Rattle.kernel.specs.Runs.{Between};
 ghost use Rattle.engine.specs.States.{Sound, Holds, Apart, numbers, cells};
@@ -21,10 +22,11 @@ pub fn key_by(mode: usize, v: i16) -> u16
     65535 - key
 }
 
-// set[p] = the key of plate[p], for every pixel.
+// set[p] = the key of plate[p], for every pixel. Each level is read, and so is one of 16 bits.
 fn fill_keys(set: &mut [u16], plate: &[i16], mode: usize)
     requires { ⌜ length (now plate) ≤ length (now set) ⌝ }
     ensures { λ _. ⌜ Between (λ (p : ℕ). keyBy mode (levelAt (now (plate .entry)) p)) (now (set .entry)) (now (set .exit)) 0 (length (now (plate .entry))) ⌝ }
+    ensures { λ _. ⌜ Levels (now (plate .entry)) ⌝ }
 {
     let mut p = 0;
     while p < plate.len() {
@@ -50,6 +52,7 @@ fn start(set: &mut [u16], plate: &[i16], scan: Scan)
     requires { ⌜ Sound scan ⌝ }
     requires { ⌜ (length (now plate) ≡ scan .pixels) × (length (now set) ≡ scan .size) ⌝ }
     ensures { λ _. ⌜ ((backwards : Bool) → Holds (numbers (now (set .exit))) (now (plate .entry)) scan backwards 0) ⌝ }
+    ensures { λ _. ⌜ Levels (now (plate .entry)) ⌝ }
 {
     fill_keys(set, plate, scan.mode);
     fill_highest(set, plate.len());
@@ -101,6 +104,7 @@ pub fn start_at(work: &mut [u16], plate: &[i16], scan: Scan, at: usize)
     requires { ⌜ (length (now plate) ≡ scan .pixels) × (at + scan .size ≤ length (now work)) ⌝ }
     ensures { λ _. ⌜ ((backwards : Bool) → Holds (cells (now (work .exit)) at) (now (plate .entry)) scan backwards 0) ⌝ }
     ensures { λ _. ⌜ Apart (now (work .entry)) (now (work .exit)) at (at + scan .size) ⌝ }
+    ensures { λ _. ⌜ Levels (now (plate .entry)) ⌝ }
 {
     let past = at + scan.size;
     start(&mut work[at..past], plate, scan);

@@ -1,9 +1,11 @@
--- A call is accepted exactly when none of its checks refuses.
+-- A call is accepted exactly when none of its checks refuses, and the first that does decides.
 use mathlib.Core.Path.{_≡_, refl}
 use mathlib.Core.Bool.{Bool, true, false, cond}
-use mathlib.Core.List.{List, [], _∷_}
+use mathlib.Core.List.{List, [], _∷_, _++_}
+use mathlib.Core.Logic.{⊎-elim}
 use native.Mathlib.Omega.{arith}
 use Prim.Native.Nat.{ℕ}
+use Rattle.basics.proofs.Tests.{true-or-false}
 use Rattle.plate.specs.Refusals.{Verdict, Verdict.accepted, Verdict.refused, Check, judged}
 
 -- none of the checks refuses
@@ -26,3 +28,29 @@ accepted-clear [] a v e = (cc, tt)
 accepted-clear (c ∷ cs) a v e =
     let f = first-passes (c .refuses) (c .number) (c .place) (judged cs a) v e in
     let r = accepted-clear cs a v (f .1) in (r .0, (f .0, r .1))
+
+-- ---- checks in a row
+
+clash : {A B : Type 0} {a : A} {n p : ℕ} → accepted a ≡ refused n p → B
+clash e = absurd (let z : _≡_ {A = ℕ} 0 1 = cc in omega arith)
+
+-- where those that come first refuse they decide, whatever the call returns
+pub refused-first : {A B : Type 0} (a : A) (b : B) (cs ds : List Check) (n p : ℕ) → judged cs a ≡ refused n p → judged (cs ++ ds) b ≡ refused n p
+unfolding judged
+refused-first a b [] ds n p e = clash e
+refused-first {A} a b (c ∷ cs) ds n p e =
+    ⊎-elim
+    (λ t. let f : _≡_ {A = Verdict A} (refused (c .number) (c .place)) (refused n p) = rw t at e in rw t (cc))
+    (λ t. let f : judged cs a ≡ refused n p = rw t at e in rw t (refused-first a b cs ds n p f))
+    (true-or-false (c .refuses))
+
+-- and where they pass the next one does
+pub refused-next : {A : Type 0} (a : A) (cs : List Check) (c : Check) (ds : List Check) → Clear cs → c .refuses ≡ true → refused (c .number) (c .place) ≡ judged (cs ++ (c ∷ ds)) a
+unfolding judged
+refused-next a [] c ds h t = rw t
+refused-next a (b ∷ cs) c ds h t = rw (h .0) (refused-next a cs c ds (h .1) t)
+
+-- one check more that passes
+pub clear-more : (cs : List Check) (c : Check) → Clear cs → c .refuses ≡ false → Clear (cs ++ (c ∷ []))
+clear-more [] c h p = (p, tt)
+clear-more (b ∷ cs) c h p = (h .0, clear-more cs c (h .1) p)

@@ -43,7 +43,7 @@ returns-2 c =
       c .before .before .before .before .before .before .before .before .before .before .multiple-below .ensures,
       (
         outer-made (a .scan) (s .pre .0) (a .plate .now) (a .backwards) (r .last .0) (c .before .before .before .before .before .before .before .before .before .before .multiple-below .result) (r .ensures .0),
-        apart-then (a .work .now) w₁ (r .last .0) 0 (endsAt (a .scan)) (z + z) (z + z + z) (z + z) (z + z + z) (c .before .before .before .before .before .before .before .start-at .ensures .1) (r .ensures .1)
+        apart-then (a .work .now) w₁ (r .last .0) 0 (endsAt (a .scan)) (z + z) (z + z + z) (z + z) (z + z + z) (c .before .before .before .before .before .before .before .start-at .ensures .1 .0) (r .ensures .1)
             (omega arith) (omega arith) (omega arith) (omega arith),
       ),
     )

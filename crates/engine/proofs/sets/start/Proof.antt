@@ -18,7 +18,7 @@ returns : tie.Need-returns
 returns c =
     let s = c .before .before .before .before .before .before .before .before .before in
     let k = c .before .before .before .before .before .before .fill-keys in
-    set-started (s .args .scan) (s .pre .0) _ _ _ _ _ _ (s .pre .1 .0) (k .kept .0 ∙ s .pre .1 .1) (k .ensures) (c .before .before .fill-highest .ensures)
+    (set-started (s .args .scan) (s .pre .0) _ _ _ _ _ _ (s .pre .1 .0) (k .kept .0 ∙ s .pre .1 .1) (k .ensures .0) (c .before .before .fill-highest .ensures), k .ensures .1)
 
 pub start-spec : {M : Type 1} → statement M
 start-spec = tie.close (tie.spec fill-keys-requires fill-highest-requires same-length returns)

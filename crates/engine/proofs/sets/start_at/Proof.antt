@@ -32,8 +32,8 @@ returns c =
     let a = s .args in
     let r = c .before .before .start in
     let len = r .kept .0 ∙ lent-length (a .work .now) (a .at) (a .scan .size) (s .pre .1 .1) in (
-      λ backwards. part-back (a .scan) (s .pre .0) _ _ _ (a .work .now) (r .last .0) (a .at) (s .pre .1 .1) len (r .ensures backwards),
-      part-apart (a .work .now) (r .last .0) (a .at) (a .scan .size) (s .pre .1 .1) len,
+      λ backwards. part-back (a .scan) (s .pre .0) _ _ _ (a .work .now) (r .last .0) (a .at) (s .pre .1 .1) len (r .ensures .0 backwards),
+      (part-apart (a .work .now) (r .last .0) (a .at) (a .scan .size) (s .pre .1 .1) len, r .ensures .1),
     )
 
 pub start-at-spec : {M : Type 1} → statement M

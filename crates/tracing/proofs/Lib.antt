@@ -1,0 +1,12 @@
+pub mod Rooms
+pub mod Neighbours
+pub mod Leading
+pub mod Trails
+pub mod Directions
+pub mod Searching
+pub mod Modes
+pub mod Noting
+pub mod Finding
+pub mod Drawing
+pub mod Showing
+pub mod Refusing

@@ -1,0 +1,189 @@
+-- The search for the best path through the picked pixel. Row by row the best found so far is not below any term that was looked at; and what the notes
+-- say of a term is what the recursion says, so that the best found is a path by numbers and no path is better. A number of steps that no path can
+-- have there has no walk to x or none from it on, so its terms are 0.
+use Prim.Native.Nat.{ℕ, zero, suc, _+_, _-_, _*_, _^_, _≤_, _<_, min}
+use mathlib.Core.Path.{_≡_, refl, sym, ap, _∙_}
+use mathlib.Core.Bool.{Bool, true, false}
+use mathlib.Core.List.{List}
+use mathlib.Core.Logic.{_⊎_, inl, inr, ⊎-elim}
+use native.Mathlib.Nat.{add-assoc}
+use native.Mathlib.Omega.{arith}
+use lib.ListN.{getD}
+use Rattle.basics.proofs.Numbers.{le-or-lt}
+use Rattle.plate.specs.Paths.{next, span}
+use Rattle.theory.proofs.Reversal.{back}
+use Rattle.theory.proofs.Ranks.{rank}
+use Rattle.theory.proofs.LevelSets.{reach, reach-none}
+use Rattle.theory.proofs.Sides.{around, room, Side, side}
+use Rattle.theory.proofs.Terms.{term}
+use Rattle.tracing.specs.Following.{Leads}
+use Rattle.tracing.specs.Finding.{Noted, sharedAt, termAt, Possible, FromNotes, RowSearched, Searched, Attained, FoundIn}
+use Rattle.tracing.specs.declared.find.Found.{Found}
+use Rattle.tracing.specs.declared.find.Notes.{Notes}
+use Rattle.engine.proofs.Rooms.{bit-listed}
+use Rattle.tracing.proofs.Rooms.{rank-below}
+
+-- ---- one row
+
+-- the value that the code makes of a term
+pub shared-is :
+    (work : List ℕ) (ends goes gaps own i v a : ℕ) → a ≡ min (getD work (ends + i) 0) (getD work (goes + (gaps - i)) 0) → v ≡ min own a →
+    v ≡ sharedAt work ends goes gaps own i
+unfolding sharedAt
+shared-is work ends goes gaps own i v a ea ev = ev ∙ ap (λ (n : ℕ). min own n) ea
+
+module _ (terms : ℕ → ℕ) (index l : ℕ) (old : Found) where
+  pub row-none : RowSearched terms 0 index l old old
+  row-none = record { not-below = omega arith; best = λ i h. absurd (omega arith); source = inl refl }
+
+  module _ (n : ℕ) (new : Found) (d : RowSearched terms n index l old new) where
+    best-more : (b : ℕ) → new .key ≤ b → terms n ≤ b → (i : ℕ) → i < n + 1 → terms i ≤ b
+    best-more b h k i g =
+        ⊎-elim (λ a. let e : i ≡ n = omega arith in rw e k) (λ a. omega (arith, d .best i a)) (le-or-lt n i)
+
+    pub row-kept : terms n ≤ new .key → RowSearched terms (n + 1) index l old new
+    row-kept h =
+        record {
+          not-below = d .not-below;
+          best = best-more (new .key) (omega arith) h;
+          source = ⊎-elim inl (λ f. inr (f .0, f .1, omega (arith, f .2), f .3)) (d .source);
+        }
+
+    pub row-better : (v : ℕ) → v ≡ terms n → new .key < v → RowSearched terms (n + 1) index l old (record { index = index; key = v; before = l; gaps = n })
+    row-better v e h =
+        record {
+          not-below = omega (arith, d .not-below);
+          best = best-more v (omega arith) (omega arith);
+          source = inr (refl, refl, omega arith, omega arith);
+        }
+
+-- ---- row after row
+
+module _ (terms : ℕ → ℕ → ℕ) (steps gaps spare rank index : ℕ) (old : Found) where
+  pub searched-none : (past : ℕ) → past ≡ rank - spare → Searched terms steps gaps spare rank index past old old
+  searched-none past e =
+      record { not-below = omega arith; best = λ l i p h k. absurd (omega (arith, p .ahead)); source = inl refl }
+
+  pub searched-more :
+      (l : ℕ) (mid new : Found) → Possible steps spare rank l → Searched terms steps gaps spare rank index l old mid →
+      RowSearched (terms l) (gaps + 1) index l mid new → Searched terms steps gaps spare rank index (l + 1) old new
+  searched-more l mid new possible d row =
+      record {
+        not-below = omega (arith, d .not-below, row .not-below);
+        best = λ l′ i p h k.
+            ⊎-elim (λ a. let e : l′ ≡ l = omega arith in rw e (row .best i (omega arith))) (λ a. omega (arith, d .best l′ i p a k, row .not-below)) (le-or-lt l l′);
+        source =
+            ⊎-elim
+            (λ e. rw e (d .source))
+            (λ f. inr
+            (record {
+              is-index = f .0;
+              possible = rw (f .1) possible;
+              few = omega (arith, f .2);
+              below = rw (f .1) (f .3);
+            }))
+            (row .source);
+      }
+
+  -- the last row that is possible
+  pub searched-all :
+      (l past : ℕ) (new : Found) → min rank steps < l → Searched terms steps gaps spare rank index l old new → Searched terms steps gaps spare rank index past old new
+  searched-all l past new h d =
+      record {
+        not-below = d .not-below;
+        best = λ l′ i p u k. d .best l′ i p (omega (arith, p .of-path, p .behind)) k;
+        source = d .source;
+      }
+
+-- ---- what the notes say
+
+module _ (W H m k spare : ℕ) (g : ℕ → ℕ) (x index : ℕ) (listed : index < 4) (on : x < W * H) (long : span W H (2 ^ index) ≡ m + spare + 1) where
+  abbrev bit : ℕ
+  bit = 2 ^ index
+
+  abbrev place : ℕ
+  place = rank W H bit x
+
+  S : (b : Bool) → Side W H bit b
+  S b = side W H bit (bit-listed index listed) b
+
+  -- a number of steps that no path can have there
+  too-many : (l i : ℕ) → place < l → reach (back W H bit) g l i x ≡ 0
+  unfolding around
+  too-many l i h = reach-none (back W H bit) g l i x (λ ps w. omega (arith, S true .fits on w))
+
+  too-few : (l i : ℕ) → l ≤ m → l + spare < place → reach (next W H bit) g (m - l) (k - i) x ≡ 0
+  unfolding around
+  too-few l i u h = reach-none (next W H bit) g (m - l) (k - i) x (λ ps w. omega (arith, S false .fits on w, rank-below W H x index listed on))
+
+  term-none : (l i : ℕ) → l ≤ m → (Possible m spare place l → ⊥) → term W H bit m k g x l i ≡ 0
+  term-none l i u n =
+      ⊎-elim
+      (λ a. ⊎-elim
+      (λ b. absurd (n (record { of-path = u; behind = a; ahead = b })))
+      (λ b. omega (arith, too-few l i u b))
+      (le-or-lt place (l + spare)))
+      (λ a. omega (arith, too-many l i a))
+      (le-or-lt l place)
+
+  module _ (work : List ℕ) (n : Notes) (own : ℕ) (is-steps : n .steps ≡ m) (is-gaps : n .gaps ≡ k) (is-own : own ≡ g x)
+      (ends : Noted (λ (q : ℕ). getD work (n .ends + q) 0) W H bit true g k spare m x)
+      (goes : Noted (λ (q : ℕ). getD work (n .goes + q) 0) W H bit false g k spare m x) where
+    term-is : (l i : ℕ) → Possible m spare place l → i ≤ k → termAt work n own l i ≡ min (g x) (term W H bit m k g x l i)
+    unfolding sharedAt around
+    term-is l i p u =
+        let e = ends .is l i (p .of-path) u (p .ahead) in
+        let f = goes .is (m - l) (k - i) (omega arith) (omega arith) (omega (arith, p .of-path, p .behind)) in
+        rw (is-steps, is-gaps, is-own, add-assoc (n .ends) (l * (k + 1)) i, add-assoc (n .goes) ((m - l) * (k + 1)) (k - i), e, f)
+
+    found-attained : (new : Found) → FromNotes (termAt work n own) m k spare place index new → Attained W H m k spare g x bit (new .key) (new .before) (new .gaps)
+    unfolding around
+    found-attained new f =
+        let p = f .possible in
+        let e = term-is (new .before) (new .gaps) p (f .few) in
+        let b = f .below in
+        record {
+          of-path = p .of-path;
+          few = f .few;
+          own = omega arith;
+          to-x = record { on = on; counts = omega arith; roomy = p .behind; near = p .ahead };
+          from-x = record {
+            on = on;
+            counts = omega arith;
+            roomy = omega (arith, p .ahead, p .of-path);
+            near = omega (arith, p .behind, p .of-path);
+          };
+        }
+
+    none-better :
+        (old new : Found) → Searched (termAt work n own) m k spare place index (m + 1) old new → (l i : ℕ) → l ≤ m → i ≤ k →
+        min (g x) (term W H bit m k g x l i) ≤ new .key
+    none-better old new d l i u v =
+        ⊎-elim
+        (λ a. ⊎-elim
+        (λ b. let p : Possible m spare place l = record { of-path = u; behind = a; ahead = b } in
+        omega (arith, term-is l i p v, d .best l i p (omega arith) v))
+        (λ b. omega (arith, term-none l i u (λ p. omega (arith, p .ahead))))
+        (le-or-lt place (l + spare)))
+        (λ a. omega (arith, term-none l i u (λ p. omega (arith, p .behind))))
+        (le-or-lt l place)
+
+    pub searched-found : (old new : Found) → Searched (termAt work n own) m k spare place index (m + 1) old new → FoundIn W H m k spare g x index old new
+    searched-found old new d =
+        record {
+          not-below = d .not-below;
+          source = ⊎-elim inl (λ f. inr (f .is-index, found-attained new f)) (d .source);
+          best = none-better old new d;
+        }
+
+  -- a path that counts at the lowest key: there is one wherever it has room
+  pub lowest-attained : (l : ℕ) → l ≡ min place m → Attained W H m k spare g x bit 0 l 0
+  lowest-attained l e =
+      let r = rank-below W H x index listed on in
+      record {
+        of-path = omega arith;
+        few = omega arith;
+        own = omega arith;
+        to-x = record { on = on; counts = omega arith; roomy = omega arith; near = omega arith };
+        from-x = record { on = on; counts = omega arith; roomy = omega arith; near = omega arith };
+      }

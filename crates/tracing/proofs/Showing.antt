@@ -1,0 +1,174 @@
+-- The best path that was found is the filtered level's, and drawn it shows all of demand 3. The key found is the value of the decomposition: no term is
+-- above it, those of a direction that is not usable being 0, and it is one of them. Turned back, its level is the filtered one.
+use Prim.Native.Nat.{ℕ, suc, _+_, _-_, _*_, _^_, _≤_, _<_, min}
+use mathlib.Core.Path.{_≡_, refl, sym, ap, subst, _∙_}
+use mathlib.Core.Bool.{true, false, _||_}
+use mathlib.Core.List.{List, map, List·Memᴰ}
+use mathlib.Core.Logic.{⊎-elim}
+use native.Mathlib.Omega.{arith}
+use lib.Dec.{T, eqb, ltb, leb}
+use lib.ListN.{length, getD}
+use lib.IntN.{ℤ}
+use borrow.Author.Tests.{eqb-true, eqb-false, ltb-false, leb-false, not-false}
+use Rattle.basics.proofs.Numbers.{le-or-lt}
+use Rattle.basics.proofs.Tests.{or-false-left, or-false-right}
+use Rattle.plate.specs.Limits.{maxLength, maxGaps}
+use Rattle.plate.specs.Levels.{level}
+use Rattle.plate.specs.Directions.{chosen}
+use Rattle.plate.specs.Paths.{next, span}
+use Rattle.plate.specs.Opening.{levelAt, admits, filtered}
+use Rattle.plate.specs.Refusals.{Verdict.accepted, badLength, badGaps, traceChecks, traceVerdict}
+use Rattle.plate.specs.declared.setting.Setting.{Setting}
+use Rattle.plate.proofs.Sizes.{GoodSize, good-size}
+use Rattle.plate.proofs.Verdicts.{Clear, clear-accepted}
+use Rattle.theory.specs.Trace.{Shows}
+use Rattle.theory.proofs.Listed.{mem-through, walk-listed, walk-started, walk-stays}
+use Rattle.theory.proofs.Ranks.{rank}
+use Rattle.theory.proofs.Span.{chosen-bits}
+use Rattle.theory.proofs.LevelSets.{reach, reach-none, low-pixels-same}
+use Rattle.theory.proofs.Sides.{around, side}
+use Rattle.theory.proofs.Reversal.{back}
+use Rattle.theory.proofs.Opening.{Levels}
+use Rattle.theory.proofs.Mirror.{turned, turned-turned, turned-levels, levelAt-filtered}
+use Rattle.theory.proofs.Decomposition.{keyAt, value, opened-value, low-admitted}
+use Rattle.theory.proofs.Terms.{term, value-term, value-least, value-same}
+use Rattle.theory.proofs.Trace.{shows}
+use Rattle.engine.specs.Finishing.{Accepted}
+use Rattle.engine.proofs.Rooms.{bit-listed}
+use Rattle.tracing.specs.Finding.{Attained, BestOf, keysBy}
+use Rattle.tracing.specs.Drawing.{Drawn}
+use Rattle.tracing.specs.declared.find.Found.{Found}
+use Rattle.tracing.proofs.Directions.{index-at, chosen-usable, usable-chosen}
+use Rattle.tracing.proofs.Modes.{keys-turned}
+use Rattle.tracing.proofs.Rooms.{rank-below}
+
+-- ---- what the checks say
+
+module _ (W H : ℕ) (s : Setting) (plate x room work : ℕ) (clear : Clear (traceChecks W H s plate x room work)) where
+  size : GoodSize W H
+  size = good-size W H (clear .0)
+
+  good-length : badLength (s .length) ≡ false
+  good-length = clear .1 .0
+
+  pub clear-long : 1 ≤ s .length
+  unfolding badLength
+  clear-long = omega (arith, eqb-false (s .length) 0 (or-false-left (eqb (s .length) 0) (ltb maxLength (s .length)) good-length))
+
+  pub clear-short : s .length ≤ 1024
+  unfolding badLength
+  clear-short = ltb-false maxLength (s .length) (or-false-right (eqb (s .length) 0) (ltb maxLength (s .length)) good-length)
+
+  clear-gaps : s .gaps ≤ 8
+  unfolding badGaps
+  clear-gaps = ltb-false maxGaps (s .gaps) (or-false-left (ltb maxGaps (s .gaps)) (leb (s .length) (s .gaps)) (clear .1 .1 .0))
+
+  pub clear-plate : plate ≡ W * H
+  clear-plate = eqb-true plate (W * H) (not-false _ (clear .1 .1 .1 .1 .1 .0))
+
+  pub clear-path : room ≡ s .length
+  clear-path = eqb-true room (s .length) (not-false _ (clear .1 .1 .1 .1 .1 .1 .0))
+
+  clear-work : 4 * (s .gaps + 1) * (W * H) ≤ work
+  clear-work = ltb-false work (4 * (s .gaps + 1) * (W * H)) (clear .1 .1 .1 .1 .1 .1 .1 .0)
+
+  pub clear-on : x < W * H
+  clear-on = leb-false (W * H) x (clear .1 .1 .1 .1 .1 .1 .1 .1 .0)
+
+  -- the filter's checks pass for a result of the plate's size
+  pub clear-accepted-sizes : Accepted W H s plate (W * H) work
+  clear-accepted-sizes =
+      record {
+        wide = size .wide;
+        narrow = size .narrow;
+        high = size .high;
+        low = size .low;
+        few-pixels = size .few;
+        long = clear-long;
+        short = clear-short;
+        few-gaps = clear-gaps;
+        plate-size = clear-plate;
+        result-size = refl;
+        work-size = clear-work;
+      }
+
+-- ---- the key found is the value
+
+module _ (W H : ℕ) (s : Setting) (f : List ℤ) (x : ℕ) (on : x < W * H) (long : 1 ≤ s .length) (r : Found) (best : BestOf W H s f x 4 r) where
+  abbrev m : ℕ
+  m = s .length - 1
+
+  abbrev g : ℕ → ℕ
+  g = keysBy (s .mode) f
+
+  -- a direction whose longest paths are too short: no walk to x and on from it has enough steps
+  term-short : (index l i : ℕ) → index < 4 → span W H (2 ^ index) < s .length → l ≤ m → term W H (2 ^ index) m (s .gaps) g x l i ≡ 0
+  unfolding around
+  term-short index l i listed short h =
+      let S = side W H (2 ^ index) (bit-listed index listed) in
+      let b = rank-below W H x index listed on in
+      ⊎-elim
+      (λ a. omega (arith, reach-none (next W H (2 ^ index)) g (m - l) (s .gaps - i) x (λ ps w. omega (arith, S false .fits on w))))
+      (λ a. omega (arith, reach-none (back W H (2 ^ index)) g l i x (λ ps w. omega (arith, S true .fits on w))))
+      (le-or-lt l (rank W H (2 ^ index) x))
+
+  none-above : (bit l i : ℕ) → List·Memᴰ bit (chosen (s .directions)) → l ≤ m → i ≤ s .gaps → min (g x) (term W H bit m (s .gaps) g x l i) ≤ r .key
+  none-above bit l i c hl hi =
+      let n = index-at bit (chosen-bits (s .directions) bit c) in
+      let c′ : List·Memᴰ (2 ^ n .0) (chosen (s .directions)) = subst (λ (b : ℕ). List·Memᴰ b (chosen (s .directions))) (n .2) c in
+      subst (λ (b : ℕ). min (g x) (term W H b m (s .gaps) g x l i) ≤ r .key) (sym (n .2))
+      (⊎-elim
+      (λ a. best .best (n .0) (n .1) (chosen-usable W H s (n .0) c′ a) l i hl hi)
+      (λ a. omega (arith, term-short (n .0) l i (n .1) a hl))
+      (le-or-lt (s .length) (span W H (2 ^ n .0))))
+
+  value-found : value W H (chosen (s .directions)) m (s .gaps) g x ≡ r .key
+  unfolding around
+  value-found =
+      let a = best .attained in
+      let c = usable-chosen W H s (r .index) (best .listed) (best .is-usable) in
+      omega (
+        arith,
+        value-least W H (chosen (s .directions)) m (s .gaps) g x (r .key) none-above,
+        value-term W H (chosen (s .directions)) m (s .gaps) g x (2 ^ r .index) (r .before) (r .gaps) c (a .of-path) (a .few),
+        a .own,
+        a .to-x .counts,
+        a .from-x .counts,
+      )
+
+  module _ (exact : length f ≡ W * H) (levels : Levels f) where
+    abbrev turnedPlate : List ℤ
+    turnedPlate = map (turned s) f
+
+    same-keys : (p : ℕ) → p < W * H → keyAt turnedPlate p ≡ g p
+    unfolding keysBy
+    same-keys p h = sym (keys-turned s f levels p (omega arith))
+
+    pub level-found : levelAt (filtered s W H f) x ≡ turned s (level (r .key))
+    level-found =
+        levelAt-filtered s W H f x on
+        ∙ ap (turned s)
+        (opened-value turnedPlate (turned-levels s f levels .size) s W H m x on (let e : s .length ≡ suc m = omega arith in e)
+        ∙ ap level (value-same W H (chosen (s .directions)) m (s .gaps) x on (keyAt turnedPlate) g same-keys ∙ value-found))
+
+    -- ---- and the path drawn is one of those that it counts for
+
+    module _ (path : List ℕ) (d : Drawn W H (2 ^ r .index) g (r .key) m (s .gaps) x path) where
+      start-on : getD path 0 0 < W * H
+      start-on = walk-started W H (2 ^ r .index) (d .walk) (d .crosses) on
+
+      counted : T (admits s turnedPlate (level (r .key)) path)
+      counted =
+          low-admitted turnedPlate (turned-levels s f levels .size) s (r .key) path
+          (omega (arith, d .few, low-pixels-same (keyAt turnedPlate) g (r .key) path (λ p i. same-keys p (walk-stays W H (2 ^ r .index) (d .walk) start-on i))))
+
+      pub path-shown : (room work : ℕ) → Clear (traceChecks W H s (length f) x room work) → Shows s W H f x (2 ^ r .index) (turned s (level (r .key))) path
+      unfolding traceVerdict
+      path-shown room work clear =
+          let accepts = clear-accepted (traceChecks W H s (length f) x room work) (levelAt (filtered s W H f) x) clear ∙ ap accepted level-found in
+          let e : suc m ≡ s .length = omega arith in
+          shows s W H f x room work (turned s (level (r .key))) accepts levels (2 ^ r .index) path
+          (usable-chosen W H s (r .index) (best .listed) (best .is-usable))
+          (rw e at (walk-listed W H (2 ^ r .index) start-on (d .walk)))
+          (mem-through x (d .crosses))
+          (rw (turned-turned s (level (r .key))) counted)

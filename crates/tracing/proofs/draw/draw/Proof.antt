@@ -1,0 +1,98 @@
+-- `draw` meets its contract: the pixel is set, and the two trails from it make one walk.
+use Prim.Native.Nat.{_+_, _-_}
+use mathlib.Core.Path.{_≡_, _∙_}
+use native.Mathlib.Omega.{arith}
+use borrow.Author.Needs.{needs}
+use lib.ListN.{length, set, length-set}
+use lib.Seq.{getD-set-same}
+use Rattle.tracing.proofs.Drawing.{drawn}
+use Rattle.tracing.proofs.draw.draw.Statement.{statement}
+use Rattle.tracing.proofs.draw.draw.Tie as tie
+
+sub-ahead : tie.Need-sub-ahead
+sub-ahead c = search needs
+
+sub-left : tie.Need-sub-left
+sub-left c = search needs
+
+mul-path : tie.Need-mul-path
+mul-path c = search needs
+
+slice-write-path : tie.Need-slice-write-path
+slice-write-path c = search needs
+
+follow-requires : tie.Need-follow-requires
+follow-requires c κs =
+    let s = c .before .before .before .before .before .before .before in
+    let a = s .args in
+    let t = s .pre .1 .1 .1 in
+    let size = length-set (a .path .now) (a .found .before) (a .x) in
+    let here = getD-set-same (a .path .now) (a .found .before) (a .x) 0 (omega (arith, s .pre .1 .0, t .of-path)) in (
+      s .pre .0,
+      (
+        (s .pre .1 .0 .0, s .pre .1 .0 .1, omega arith, omega arith),
+        (
+          s .pre .1 .1 .0,
+          (
+            (omega (arith, size, s .pre .1 .0, s .pre .0 .short), omega (arith, size, s .pre .1 .0, t .of-path)),
+            (omega (arith, size, s .pre .1 .0, t .of-path), rw here (t .from-x)),
+          ),
+        ),
+      ),
+    )
+
+follow-requires-2 : tie.Need-follow-requires-2
+follow-requires-2 c κs =
+    let s = c .before .before .before .before .before .before .before .before .before .before .before .before .before .before in
+    let a = s .args in
+    let t = s .pre .1 .1 .1 in
+    let f = c .before .before .before .before .before .before .follow in
+    let size = f .ensures .0 .len ∙ length-set (a .path .now) (a .found .before) (a .x) in
+    let here = f .ensures .0 .kept (a .found .before) (omega arith) ∙ getD-set-same (a .path .now) (a .found .before) (a .x) 0 (omega (arith, s .pre .1 .0, t .of-path)) in (
+      s .pre .0,
+      (
+        (s .pre .1 .0 .0, omega (arith, s .pre .1 .0, f .kept .1 .0), t .of-path, t .few),
+        (
+          s .pre .1 .1 .0,
+          (
+            (omega (arith, size, s .pre .1 .0, s .pre .0 .short), omega (arith, size, s .pre .1 .0, t .of-path)),
+            ((omega arith, omega (arith, size, s .pre .1 .0, t .of-path)), rw here (t .to-x)),
+          ),
+        ),
+      ),
+    )
+
+same-length : tie.Need-same-length
+same-length c =
+    let s = c .before .before .before .before .before .before .before .before .before .before .before .before .before .before .before .before .before .before .before in
+    let a = s .args in
+    c .before .before .before .before .follow2 .kept .0 ∙ c .before .before .before .before .before .before .before .before .before .before .before .follow .kept .0 ∙ length-set (a .path .now) (a .found .before) (a .x)
+
+same-length-2 : tie.Need-same-length-2
+same-length-2 c = search needs
+
+returns : tie.Need-returns
+returns c =
+    let s = c .before .before .before .before .before .before .before .before .before .before .before .before .before .before .before .before .before .before .before in
+    let a = s .args in
+    let t = s .pre .1 .1 .1 in
+    let f = c .before .before .before .before .before .before .before .before .before .before .before .follow in
+    let g = c .before .before .before .before .follow2 in
+    let l = a .found .before in
+    drawn (a .scan .width) (a .scan .height) _ _ (a .found .key) (a .scan .steps) (a .scan .gaps) (a .x) l (a .found .gaps) (set (a .path .now) l (a .x)) (f .last .0) (g .last .0)
+    (t .of-path) (t .few) (omega (arith, length-set (a .path .now) l (a .x), s .pre .1 .0)) (getD-set-same (a .path .now) l (a .x) 0 (omega (arith, s .pre .1 .0, t .of-path)))
+    (f .ensures .0) (f .ensures .1) (g .ensures .0) (g .ensures .1)
+
+pub draw-spec : {M : Type 1} → statement M
+draw-spec =
+    tie.close
+    (tie.spec
+    sub-ahead
+    sub-left
+    mul-path
+    slice-write-path
+    follow-requires
+    follow-requires-2
+    same-length
+    same-length-2
+    returns)

@@ -1,0 +1,108 @@
+-- `show` meets its contract: the best path found has the filtered level, and drawn it shows all that demand 3 asks for.
+use Prim.Native.Nat.{_*_}
+use mathlib.Core.Path.{_≡_, refl, sym, ap, _∙_}
+use native.Mathlib.Omega.{arith}
+use borrow.Author.Needs.{needs}
+use lib.ListN.{length}
+use mir.Syntax.{w16}
+use mir.ValLaws.{toZ-ofZ}
+use Rattle.plate.specs.Refusals.{Verdict.accepted}
+use Rattle.engine.proofs.SweepLaws.{scan-pixels, scan-room}
+use Rattle.tracing.proofs.Directions.{usable-long}
+use Rattle.tracing.proofs.Finding.{scan-attained, scan-drawn}
+use Rattle.tracing.proofs.Showing.{clear-long, clear-plate, clear-path, clear-on, clear-accepted-sizes, level-found, path-shown}
+use Rattle.tracing.proofs.shown.show.Statement.{statement}
+use Rattle.tracing.proofs.shown.show.Tie as tie
+
+find-requires : tie.Need-find-requires
+find-requires c κs =
+    let s = c .before .before .before in
+    let a = s .args in
+    (clear-accepted-sizes (a .width) (a .height) (a .setting) (length (a .plate .now)) (a .x) (length (a .path .now)) (length (a .work .now)) (s .pre .0), ((clear-on (a .width) (a .height) (a .setting) (length (a .plate .now)) (a .x) (length (a .path .now)) (length (a .work .now)) (s .pre .0), s .pre .1 .0), s .pre .1 .1))
+
+span-of-requires : tie.Need-span-of-requires
+span-of-requires c κs =
+    let s = c .before .before .before .before .before .before in
+    let a = s .args in
+    let p = clear-accepted-sizes (a .width) (a .height) (a .setting) (length (a .plate .now)) (a .x) (length (a .path .now)) (length (a .work .now)) (s .pre .0) in
+    (p .wide, p .narrow, p .high, p .low, c .before .before .find .ensures .0 .listed)
+
+scan-of-requires : tie.Need-scan-of-requires
+scan-of-requires c κs =
+    let s = c .before .before .before .before .before .before .before in
+    let a = s .args in
+    let p = clear-accepted-sizes (a .width) (a .height) (a .setting) (length (a .plate .now)) (a .x) (length (a .path .now)) (length (a .work .now)) (s .pre .0) in
+    let b = c .before .before .before .find .ensures .0 in
+    let n = c .span-of .ensures in (
+      (p .wide, p .narrow, p .high, p .low, p .few-pixels),
+      (
+        (p .long, p .few-gaps, b .listed),
+        (n .0, n .1, omega (arith, n .0, usable-long (a .width) (a .height) (a .setting) (c .before .before .before .find .result .index) (b .listed) (b .is-usable))),
+      ),
+    )
+
+draw-requires : tie.Need-draw-requires
+draw-requires c κs =
+    let s = c .before .before .before .before .before .before .before .before .before .before in
+    let a = s .args in
+    let f = c .before .before .before .before .before .before .find in
+    let r = c .before .before .scan-of in
+    let n = scan-pixels (r .result) (a .width) (a .height) (a .setting) (f .result .index) (r .ensures .0) (r .ensures .1) in
+    let room = scan-room (r .result) (a .width) (a .height) (a .setting) (f .result .index) (r .ensures .0) (r .ensures .1) _ (clear-accepted-sizes (a .width) (a .height) (a .setting) (length (a .plate .now)) (a .x) (length (a .path .now)) (length (a .work .now)) (s .pre .0) .work-size) in
+    let long = clear-long (a .width) (a .height) (a .setting) (length (a .plate .now)) (a .x) (length (a .path .now)) (length (a .work .now)) (s .pre .0) in (
+      r .ensures .0,
+      (
+        (clear-plate (a .width) (a .height) (a .setting) (length (a .plate .now)) (a .x) (length (a .path .now)) (length (a .work .now)) (s .pre .0) ∙ sym n, omega (arith, room, f .kept .0), omega (arith, clear-path (a .width) (a .height) (a .setting) (length (a .plate .now)) (a .x) (length (a .path .now)) (length (a .work .now)) (s .pre .0), long, r .ensures .1 .is-steps)),
+        (
+          f .ensures .1,
+          scan-attained (r .result) (a .width) (a .height) (a .setting) (f .result .index) (r .ensures .0) (r .ensures .1) long (a .plate .now) (a .x) (f .result .key) (f .result .before) (f .result .gaps)
+              (f .ensures .0 .attained),
+        ),
+      ),
+    )
+
+bit-of-requires : tie.Need-bit-of-requires
+bit-of-requires c κs = search needs
+
+level-by-requires : tie.Need-level-by-requires
+level-by-requires c κs = search needs
+
+same-length : tie.Need-same-length
+same-length c = search needs
+
+same-length-2 : tie.Need-same-length-2
+same-length-2 c = search needs
+
+returns : tie.Need-returns
+returns c =
+    let s = c .before .before .before .before .before .before .before .before .before .before .before .before .before .before .before .before .before in
+    let a = s .args in
+    let f = c .before .before .before .before .before .before .before .before .before .before .before .before .before .find in
+    let r = c .before .before .before .before .before .before .before .before .before .scan-of in
+    let d = c .before .before .before .before .before .before .draw in
+    let v = c .level-by in
+    let long = clear-long (a .width) (a .height) (a .setting) (length (a .plate .now)) (a .x) (length (a .path .now)) (length (a .work .now)) (s .pre .0) in
+    let on = clear-on (a .width) (a .height) (a .setting) (length (a .plate .now)) (a .x) (length (a .path .now)) (length (a .work .now)) (s .pre .0) in
+    let exact = clear-plate (a .width) (a .height) (a .setting) (length (a .plate .now)) (a .x) (length (a .path .now)) (length (a .work .now)) (s .pre .0) in
+    let is-level = toZ-ofZ w16 (v .result) (record { sfits = v .ok }) ∙ v .ensures in
+    let path =
+    scan-drawn (r .result) (a .width) (a .height) (a .setting) (f .result .index) (r .ensures .0) (r .ensures .1) long (a .plate .now) (a .x) (f .result .key) (d .last .0) (d .ensures) in (
+      ap accepted (is-level ∙ sym (level-found (a .width) (a .height) (a .setting) (a .plate .now) (a .x) on long (f .result) (f .ensures .0) exact (f .ensures .1))),
+      rw (is-level, c .before .bit-of .ensures .0)
+          (path-shown (a .width) (a .height) (a .setting) (a .plate .now) (a .x) on long (f .result) (f .ensures .0) exact (f .ensures .1) (d .last .0) path
+          (length (a .path .now)) (length (a .work .now)) (s .pre .0)),
+    )
+
+pub show-spec : {M : Type 1} → statement M
+show-spec =
+    tie.close
+    (tie.spec
+    find-requires
+    span-of-requires
+    scan-of-requires
+    draw-requires
+    bit-of-requires
+    level-by-requires
+    same-length
+    same-length-2
+    returns)

@@ -1,0 +1,13 @@
+-- What the path buffer holds in the end. This definition serves contracts inside the engine only: no public contract cites it.
+use Prim.Native.Nat.{ℕ, _≤_}
+use mathlib.Core.List.{List, List·Memᴰ}
+use lib.ListN.{getD}
+use Rattle.plate.specs.Paths.{next}
+use Rattle.theory.proofs.Walks.{Walk}
+use Rattle.theory.proofs.LevelSets.{lowPixels}
+
+-- a walk of m steps of the direction, through x, with at most k pixels below t
+pub record Drawn (W H bit : ℕ) (g : ℕ → ℕ) (t m k x : ℕ) (path : List ℕ) : Type 0 where
+  pub walk : Walk (next W H bit) m (getD path 0 0) path
+  pub crosses : List·Memᴰ x path
+  pub few : lowPixels g t path ≤ k

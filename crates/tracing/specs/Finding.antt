@@ -1,0 +1,89 @@
+-- What a trace finds at the picked pixel: the best way to share a path there. These definitions serve contracts inside the engine only: no public
+-- contract cites them.
+use Prim.Native.Nat.{ℕ, _+_, _-_, _*_, _^_, _≤_, _<_, min}
+use mathlib.Core.Path.{_≡_}
+use mathlib.Core.Bool.{Bool, true, false}
+use mathlib.Core.List.{List}
+use mathlib.Core.Logic.{_⊎_}
+use lib.ListN.{getD}
+use lib.IntN.{ℤ}
+use Rattle.plate.specs.Paths.{span}
+use Rattle.plate.specs.Opening.{levelAt}
+use Rattle.plate.specs.declared.setting.Setting.{Setting}
+use Rattle.theory.proofs.LevelSets.{reach}
+use Rattle.theory.proofs.Sides.{around, room}
+use Rattle.theory.proofs.Terms.{term}
+use Rattle.kernel.specs.Sets.{keyBy}
+use Rattle.tracing.specs.Following.{Leads}
+use Rattle.tracing.specs.Usable.{usable}
+use Rattle.tracing.specs.declared.find.Found.{Found}
+use Rattle.tracing.specs.declared.find.Notes.{Notes}
+
+-- The numbers of x in the plane sets of 0 to m steps, k + 1 for each. Those for which x has too much room are free.
+pub record Noted (numbers : ℕ → ℕ) (W H bit : ℕ) (backwards : Bool) (g : ℕ → ℕ) (k spare m x : ℕ) : Type 0 where
+  pub is : (l j : ℕ) → l ≤ m → j ≤ k → room W H bit backwards x ≤ l + spare →
+      numbers (l * (k + 1) + j) ≡ reach (around backwards W H bit) g l j x
+
+-- A path that has i gaps to x and the others from x on, by the notes of the one part and of the other; not above the key of x itself.
+unfoldable pub sharedAt : List ℕ → ℕ → ℕ → ℕ → ℕ → ℕ → ℕ
+sharedAt work ends goes gaps own i = min own (min (getD work (ends + i) 0) (getD work (goes + (gaps - i)) 0))
+
+-- the same for a path with l steps to x
+abbrev pub termAt : List ℕ → Notes → ℕ → ℕ → ℕ → ℕ
+termAt work n own l i = sharedAt work (n .ends + l * (n .gaps + 1)) (n .goes + (n .steps - l) * (n .gaps + 1)) (n .gaps) own i
+
+-- l is a number of steps to x that a path can have
+pub record Possible (steps spare rank l : ℕ) : Type 0 where
+  pub of-path : l ≤ steps
+  pub behind : l ≤ rank
+  pub ahead : rank ≤ l + spare
+
+-- the new one was found by the notes of a direction
+pub record FromNotes (terms : ℕ → ℕ → ℕ) (steps gaps spare rank index : ℕ) (new : Found) : Type 0 where
+  pub is-index : new .index ≡ index
+  pub possible : Possible steps spare rank (new .before)
+  pub few : new .gaps ≤ gaps
+  pub below : new .key ≤ terms (new .before) (new .gaps)
+
+-- the first n terms with l steps to x are searched: the old one stays, or a better one is found, and none of the terms is above it
+pub record RowSearched (terms : ℕ → ℕ) (n index l : ℕ) (old new : Found) : Type 0 where
+  pub not-below : old .key ≤ new .key
+  pub best : (i : ℕ) → i < n → terms i ≤ new .key
+  pub source : (new ≡ old) ⊎ ((new .index ≡ index) × (new .before ≡ l) × (new .gaps < n) × (new .key ≤ terms (new .gaps)))
+
+-- the same for all possible numbers of steps below `past`
+pub record Searched (terms : ℕ → ℕ → ℕ) (steps gaps spare rank index past : ℕ) (old new : Found) : Type 0 where
+  pub not-below : old .key ≤ new .key
+  pub best : (l i : ℕ) → Possible steps spare rank l → l < past → i ≤ gaps → terms l i ≤ new .key
+  pub source : (new ≡ old) ⊎ FromNotes terms steps gaps spare rank index new
+
+-- A path through x is known by numbers: in the direction with this bit it has `before` steps to x with at most `gaps` pixels below t, and its other
+-- steps from x on with the other gaps; m steps and k gaps in all, and `spare` steps less than the direction's longest paths.
+pub record Attained (W H m k spare : ℕ) (g : ℕ → ℕ) (x bit t before gaps : ℕ) : Type 0 where
+  pub of-path : before ≤ m
+  pub few : gaps ≤ k
+  pub own : t ≤ g x
+  pub to-x : Leads W H bit true g t spare before gaps x
+  pub from-x : Leads W H bit false g t spare (m - before) (k - gaps) x
+
+-- a direction is searched: the old one stays, or a better one is found there, and no path of the direction is better
+pub record FoundIn (W H m k spare : ℕ) (g : ℕ → ℕ) (x index : ℕ) (old new : Found) : Type 0 where
+  pub not-below : old .key ≤ new .key
+  pub source : (new ≡ old) ⊎ ((new .index ≡ index) × Attained W H m k spare g x (2 ^ index) (new .key) (new .before) (new .gaps))
+  pub best : (l i : ℕ) → l ≤ m → i ≤ k → min (g x) (term W H (2 ^ index) m k g x l i) ≤ new .key
+
+-- the keys of a plate, as the mode looks at it
+unfoldable pub keysBy : ℕ → List ℤ → ℕ → ℕ
+keysBy mode f p = keyBy mode (levelAt f p)
+
+-- what is found in one direction of the table, by the setting
+abbrev pub FoundAt : ℕ → ℕ → Setting → List ℤ → ℕ → ℕ → Found → Found → Type 0
+FoundAt W H s f x index = FoundIn W H (s .length - 1) (s .gaps) (span W H (2 ^ index) - s .length) (keysBy (s .mode) f) x index
+
+-- the best path through x in the usable directions with an index below `past`
+pub record BestOf (W H : ℕ) (s : Setting) (f : List ℤ) (x past : ℕ) (r : Found) : Type 0 where
+  pub listed : r .index < 4
+  pub is-usable : usable W H s (2 ^ r .index) ≡ true
+  pub attained : Attained W H (s .length - 1) (s .gaps) (span W H (2 ^ r .index) - s .length) (keysBy (s .mode) f) x (2 ^ r .index) (r .key) (r .before) (r .gaps)
+  pub best : (index : ℕ) → index < past → usable W H s (2 ^ index) ≡ true → (l i : ℕ) → l ≤ s .length - 1 → i ≤ s .gaps →
+      min (keysBy (s .mode) f x) (term W H (2 ^ index) (s .length - 1) (s .gaps) (keysBy (s .mode) f) x l i) ≤ r .key

@@ -1,0 +1,6 @@
+pub mod Headings
+pub mod Choosing
+pub mod Following
+pub mod Usable
+pub mod Finding
+pub mod Drawing

@@ -1,0 +1,91 @@
+// The trace: one path through a picked pixel, as section 4 of document 01 has it.
+//
+// By the span law the sizes alone tell whether there is a path. The plane sets of the filter then give,
+// at the picked pixel alone, the best level and how a path of that level shares its steps and gaps
+// there; and the path is followed from that pixel on and back, each next pixel one whose number in the
+// plane set of the steps to go is at least the level. It takes 2 * length steps of a plane set for each
+// usable direction, and some 3 * length^(4/3) to follow the path.
+ghost use mathlib.Core.Path.{_≡_};
+ghost use lib.ListN.{length};
+ghost use Rattle.plate.specs.Refusals.{traceVerdict};
+ghost use Rattle.plate.specs.Answers.{tracedLevel, traceAfter};
+ghost use Rattle.theory.specs.Trace.{Shows};
+
+mod choose;
+mod draw;
+mod find;
+mod follow;
+mod heading;
+mod notes;
+mod shown;
+mod usable;
+
+use crate::shown::show;
+use crate::usable::first_usable;
+use plate::Made;
+use plate::Setting;
+use plate::Traced;
+use plate::refusal;
+
+// Writes the places of a path through the pixel at a place, in walking order, into the path buffer, and
+// returns the bit of its direction (document 01: way) and the pixel's filtered level; or refuses (1 to 8,
+// 11, 12) and changes nothing.
+pub fn trace(
+    width: usize,
+    height: usize,
+    plate: &[i16],
+    setting: Setting,
+    at: usize,
+    path: &mut [usize],
+    work: &mut [u16],
+) -> Traced
+    ensures { λ r. ⌜ tracedLevel r ≡ traceVerdict width height setting (now (plate .entry)) at (length (now (path .entry))) (length (now (work .entry))) ⌝ }
+    ensures { λ r. ⌜ traceAfter r (Shows setting width height (now (plate .entry)) at) (now (path .entry)) (now (path .exit)) (now (work .entry)) (now (work .exit)) ⌝ }
+{
+    if plate::bad_size(width, height) {
+        return Traced::Refused {
+            number: refusal::SIZE,
+            place: 0,
+        };
+    }
+    let made = setting.checked();
+    if let Made::Refused { number, place } = made {
+        return Traced::Refused {
+            number: number,
+            place: place,
+        };
+    }
+    let pixels = width * height;
+    if plate.len() != pixels {
+        return Traced::Refused {
+            number: refusal::INPUT,
+            place: 0,
+        };
+    }
+    if path.len() != setting.length {
+        return Traced::Refused {
+            number: refusal::RESULT,
+            place: 0,
+        };
+    }
+    if work.len() < 4 * (setting.gaps + 1) * pixels {
+        return Traced::Refused {
+            number: refusal::WORK,
+            place: 0,
+        };
+    }
+    if at >= pixels {
+        return Traced::Refused {
+            number: refusal::PLACE,
+            place: 0,
+        };
+    }
+    let first = first_usable(width, height, setting);
+    if first >= plate::DIRECTIONS {
+        return Traced::Refused {
+            number: refusal::NO_PATH,
+            place: 0,
+        };
+    }
+    show(width, height, plate, setting, at, first, path, work)
+}

@@ -1,0 +1,55 @@
+// The path that is shown, once every check has passed.
+ghost use mathlib.Core.Path.{_≡_};
+ghost use Prim.Native.Nat.{_<_};
+ghost use lib.ListN.{length};
+ghost use Rattle.plate.specs.Levels.{level};
+ghost use Rattle.plate.specs.Opening.{levelAt, filtered};
+ghost use Rattle.plate.specs.Refusals.{Verdict.accepted, traceChecks};
+ghost use Rattle.plate.specs.Answers.{tracedLevel, traceAfter};
+ghost use Rattle.plate.proofs.Verdicts.{Clear};
+ghost use Rattle.theory.specs.Trace.{Shows};
+ghost use Rattle.theory.proofs.Mirror.{turned};
+ghost use Rattle.tracing.specs.Usable.{FirstUsable};
+use crate::draw::draw;
+use crate::find::find;
+use crate::usable::bit_of;
+use plate::Setting;
+use plate::Traced;
+
+// The level with this key, by the mode: in mode 1 keys are those of the mirrored levels.
+fn level_by(setting: Setting, key: u16) -> i16
+    ensures { λ r. ⌜ r ≡ turned setting (level key) ⌝ }
+{
+    let found = plate::level_of(key);
+    if setting.mode == 0 {
+        return found;
+    }
+    plate::mirrored(found)
+}
+
+// Finds the best path through the pixel x and draws it.
+pub(crate) fn show(
+    width: usize,
+    height: usize,
+    plate: &[i16],
+    setting: Setting,
+    x: usize,
+    first: usize,
+    path: &mut [usize],
+    work: &mut [u16],
+) -> Traced
+    requires { ⌜ Clear (traceChecks width height setting (length (now plate)) x (length (now path)) (length (now work))) ⌝ }
+    requires { ⌜ first < 4 ⌝ }
+    requires { ⌜ FirstUsable width height setting first ⌝ }
+    ensures { λ r. ⌜ tracedLevel r ≡ accepted (levelAt (filtered setting width height (now (plate .entry))) x) ⌝ }
+    ensures { λ r. ⌜ traceAfter r (Shows setting width height (now (plate .entry)) x) (now (path .entry)) (now (path .exit)) (now (work .entry)) (now (work .exit)) ⌝ }
+{
+    let found = find(work, plate, width, height, setting, first, x);
+    let longest = engine::span_of(width, height, found.index);
+    let scan = engine::scan_of(width, height, setting, found.index, longest);
+    draw(path, work, plate, scan, found, x);
+    Traced::Path {
+        direction: bit_of(found.index),
+        level: level_by(setting, found.key),
+    }
+}
