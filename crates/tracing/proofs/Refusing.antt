@@ -14,7 +14,7 @@ use Rattle.plate.specs.Paths.{crossed}
 use Rattle.plate.specs.Opening.{levelAt, filtered}
 use Rattle.plate.specs.Refusals.{Verdict, Verdict.accepted, Verdict.refused, Check, judged, badSize, badLength, badGaps, sizeCheck, inputCheck, resultCheck, workCheck, placeCheck, pathCheck, settingChecks, settingVerdict, traceChecks, traceVerdict}
 use Rattle.plate.specs.declared.setting.Setting.{Setting}
-use Rattle.plate.proofs.Verdicts.{Clear, accepted-clear, refused-first, refused-next, clear-more}
+use Rattle.plate.proofs.Verdicts.{Clear, clear-accepted, accepted-clear, refused-first, refused-next, clear-more}
 use Rattle.tracing.specs.Usable.{FirstUsable}
 use Rattle.tracing.proofs.Directions.{usable-crosses, none-crosses}
 
@@ -44,6 +44,10 @@ module _ (W H : ℕ) (s : Setting) (f : List ℤ) (x room work : ℕ) where
   pub refused-size : badSize W H ≡ true → refused 1 0 ≡ traceVerdict W H s f x room work
   unfolding traceVerdict
   refused-size e = refused-next filteredLevel [] (sizeCheck W H) (settingChecks s ++ (input ∷ result ∷ space ∷ place ∷ crossing ∷ [])) tt e
+
+  pub all-passed : Clear (traceChecks W H s (length f) x room work) → accepted filteredLevel ≡ traceVerdict W H s f x room work
+  unfolding traceVerdict
+  all-passed c = sym (clear-accepted (traceChecks W H s (length f) x room work) filteredLevel c)
 
   module _ (good : badSize W H ≡ false) where
     pub refused-setting : (n p : ℕ) → refused n p ≡ settingVerdict s → refused n p ≡ traceVerdict W H s f x room work

@@ -29,6 +29,26 @@ pub(crate) fn draw(
     let ahead = scan.steps - start;
     let left = scan.gaps - found.gaps;
     path[start] = x;
-    follow(path, work, plate, scan, false, found.key, start, ahead, left);
-    follow(path, work, plate, scan, true, found.key, start, start, found.gaps);
+    follow(
+        path,
+        work,
+        plate,
+        scan,
+        false,
+        found.key,
+        start,
+        ahead,
+        left,
+    );
+    follow(
+        path,
+        work,
+        plate,
+        scan,
+        true,
+        found.key,
+        start,
+        start,
+        found.gaps,
+    );
 }

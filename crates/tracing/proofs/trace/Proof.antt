@@ -7,12 +7,11 @@ use native.Mathlib.Nat.{mul-le-mul}
 use native.Mathlib.Omega.{arith}
 use borrow.Author.Needs.{needs}
 use lib.ListN.{length}
-use Rattle.plate.specs.Opening.{levelAt, filtered}
-use Rattle.plate.specs.Refusals.{badSize, sizeCheck, settingChecks, traceChecks, traceVerdict}
+use Rattle.plate.specs.Refusals.{badSize}
 use Rattle.plate.specs.Answers.{made}
 use Rattle.plate.proofs.Sizes.{good-size}
-use Rattle.plate.proofs.Verdicts.{Clear, clear-accepted}
-use Rattle.tracing.proofs.Refusing.{five, refused-size, refused-setting, setting-clear, few-gaps, refused-input, refused-path, refused-work, refused-place, refused-no-path, all-clear}
+use Rattle.plate.proofs.Verdicts.{Clear}
+use Rattle.tracing.proofs.Refusing.{five, refused-size, refused-setting, setting-clear, few-gaps, refused-input, refused-path, refused-work, refused-place, refused-no-path, all-clear, all-passed}
 use Rattle.tracing.proofs.trace.Statement.{statement}
 use Rattle.tracing.proofs.trace.Tie as tie
 
@@ -44,7 +43,7 @@ returns-2 : tie.Need-returns-2
 returns-2 c =
     let a = c .before .before .before .before .before .before .before .before .args in
     let refuses = sym (ap made (c .before .made .given .1)) ∙ c .before .before .before .checked .ensures in
-    (refused-setting (a .width) (a .height) (a .setting) (a .plate .now) (a .at) (length (a .path .now)) (length (a .work .now)) (good (c .before .before .before .before )) _ _ refuses, (refl, refl))
+    (refused-setting (a .width) (a .height) (a .setting) (a .plate .now) (a .at) (length (a .path .now)) (length (a .work .now)) (good (c .before .before .before .before)) _ _ refuses, (refl, refl))
 
 enum-told : tie.Need-enum-told
 enum-told c = search needs
@@ -52,7 +51,7 @@ enum-told c = search needs
 mul-pixels : tie.Need-mul-pixels
 mul-pixels c =
     let a = c .before .before .before .before .before .before .before .args in
-    omega (arith, good-size (a .width) (a .height) (good (c .before .before .before )) .few)
+    omega (arith, good-size (a .width) (a .height) (good (c .before .before .before)) .few)
 
 returns-3 : tie.Need-returns-3
 returns-3 c =
@@ -62,51 +61,51 @@ returns-3 c =
 returns-4 : tie.Need-returns-4
 returns-4 c =
     let a = c .before .before .before .before .before .before .before .before .before .before .args in
-    (refused-path (a .width) (a .height) (a .setting) (a .plate .now) (a .at) (length (a .path .now)) (length (a .work .now)) (five-clear (c .before .before .before )) (c .before .before .if2 .left) (c .if3 .taken), (refl, refl))
+    (refused-path (a .width) (a .height) (a .setting) (a .plate .now) (a .at) (length (a .path .now)) (length (a .work .now)) (five-clear (c .before .before .before)) (c .before .before .if2 .left) (c .if3 .taken), (refl, refl))
 
 add-if4 : tie.Need-add-if4
 add-if4 c =
     let a = c .before .before .before .before .before .before .before .before .before .before .before .args in
-    omega (arith, few-gaps (a .width) (a .height) (a .setting) (a .plate .now) (a .at) (length (a .path .now)) (length (a .work .now)) (five-clear (c .before .before .before .before )))
+    omega (arith, few-gaps (a .width) (a .height) (a .setting) (a .plate .now) (a .at) (length (a .path .now)) (length (a .work .now)) (five-clear (c .before .before .before .before)))
 
 mul-if4 : tie.Need-mul-if4
 mul-if4 c =
     let a = c .before .before .before .before .before .before .before .before .before .before .before .args in
-    omega (arith, few-gaps (a .width) (a .height) (a .setting) (a .plate .now) (a .at) (length (a .path .now)) (length (a .work .now)) (five-clear (c .before .before .before .before )))
+    omega (arith, few-gaps (a .width) (a .height) (a .setting) (a .plate .now) (a .at) (length (a .path .now)) (length (a .work .now)) (five-clear (c .before .before .before .before)))
 
 mul-if4-2 : tie.Need-mul-if4-2
 mul-if4-2 c =
     let a = c .before .before .before .before .before .before .before .before .before .before .before .args in
-    let k = few-gaps (a .width) (a .height) (a .setting) (a .plate .now) (a .at) (length (a .path .now)) (length (a .work .now)) (five-clear (c .before .before .before .before )) in
+    let k = few-gaps (a .width) (a .height) (a .setting) (a .plate .now) (a .at) (length (a .path .now)) (length (a .work .now)) (five-clear (c .before .before .before .before)) in
     omega (
       arith,
-      mul-le-mul {n₁ = 4 * (a .setting .gaps + 1)} {m₁ = a .width * a .height} {n₂ = 36} {m₂ = 65536} (omega arith) (good-size (a .width) (a .height) (good (c .before .before .before .before .before .before .before )) .few),
+      mul-le-mul {n₁ = 4 * (a .setting .gaps + 1)} {m₁ = a .width * a .height} {n₂ = 36} {m₂ = 65536} (omega arith) (good-size (a .width) (a .height) (good (c .before .before .before .before .before .before .before)) .few),
     )
 
 returns-5 : tie.Need-returns-5
 returns-5 c =
     let a = c .before .before .before .before .before .before .before .before .before .before .before .before .args in
-    (refused-work (a .width) (a .height) (a .setting) (a .plate .now) (a .at) (length (a .path .now)) (length (a .work .now)) (five-clear (c .before .before .before .before .before )) (c .before .before .before .before .if2 .left) (c .before .before .if3 .left) (c .if4 .taken), (refl, refl))
+    (refused-work (a .width) (a .height) (a .setting) (a .plate .now) (a .at) (length (a .path .now)) (length (a .work .now)) (five-clear (c .before .before .before .before .before)) (c .before .before .before .before .if2 .left) (c .before .before .if3 .left) (c .if4 .taken), (refl, refl))
 
 returns-6 : tie.Need-returns-6
 returns-6 c =
     let a = c .before .before .before .before .before .before .before .before .before .before .before .before .before .args in
-    (refused-place (a .width) (a .height) (a .setting) (a .plate .now) (a .at) (length (a .path .now)) (length (a .work .now)) (five-clear (c .before .before .before .before .before .before )) (c .before .before .before .before .before .if2 .left) (c .before .before .before .if3 .left) (c .before .if4 .left) (c .if5 .taken), (refl, refl))
+    (refused-place (a .width) (a .height) (a .setting) (a .plate .now) (a .at) (length (a .path .now)) (length (a .work .now)) (five-clear (c .before .before .before .before .before .before)) (c .before .before .before .before .before .if2 .left) (c .before .before .before .if3 .left) (c .before .if4 .left) (c .if5 .taken), (refl, refl))
 
 first-usable-requires : tie.Need-first-usable-requires
 first-usable-requires c κs =
     let a = c .before .before .before .before .before .before .before .before .before .before .before .before .before .args in
-    let n = good-size (a .width) (a .height) (good (c .before .before .before .before .before .before .before .before .before )) in (n .wide, n .narrow, n .high, n .low)
+    let n = good-size (a .width) (a .height) (good (c .before .before .before .before .before .before .before .before .before)) in (n .wide, n .narrow, n .high, n .low)
 
 returns-7 : tie.Need-returns-7
 returns-7 c =
     let a = c .before .before .before .before .before .before .before .before .before .before .before .before .before .before .before .args in
-    (refused-no-path (a .width) (a .height) (a .setting) (a .plate .now) (a .at) (length (a .path .now)) (length (a .work .now)) (five-clear (c .before .before .before .before .before .before .before .before )) (c .before .before .before .before .before .before .before .if2 .left) (c .before .before .before .before .before .if3 .left) (c .before .before .before .if4 .left) (c .before .before .if5 .left) _ (c .before .first-usable .ensures) (c .if6 .taken), (refl, refl))
+    (refused-no-path (a .width) (a .height) (a .setting) (a .plate .now) (a .at) (length (a .path .now)) (length (a .work .now)) (five-clear (c .before .before .before .before .before .before .before .before)) (c .before .before .before .before .before .before .before .if2 .left) (c .before .before .before .before .before .if3 .left) (c .before .before .before .if4 .left) (c .before .before .if5 .left) _ (c .before .first-usable .ensures) (c .if6 .taken), (refl, refl))
 
 show-requires : tie.Need-show-requires
 show-requires c κs =
     let a = c .before .before .before .before .before .before .before .before .before .before .before .before .before .before .before .before .before .args in
-    (all-clear (a .width) (a .height) (a .setting) (a .plate .now) (a .at) (length (a .path .now)) (length (a .work .now)) (five-clear (c .before .before .before .before .before .before .before .before .before .before )) (c .before .before .before .before .before .before .before .before .before .if2 .left) (c .before .before .before .before .before .before .before .if3 .left) (c .before .before .before .before .before .if4 .left) (c .before .before .before .before .if5 .left) _ (c .before .before .before .first-usable .ensures) (c .before .before .if6 .left), (c .before .before .if6 .left, c .before .before .before .first-usable .ensures))
+    (all-clear (a .width) (a .height) (a .setting) (a .plate .now) (a .at) (length (a .path .now)) (length (a .work .now)) (five-clear (c .before .before .before .before .before .before .before .before .before .before)) (c .before .before .before .before .before .before .before .before .before .if2 .left) (c .before .before .before .before .before .before .before .if3 .left) (c .before .before .before .before .before .if4 .left) (c .before .before .before .before .if5 .left) _ (c .before .before .before .first-usable .ensures) (c .before .before .if6 .left), (c .before .before .if6 .left, c .before .before .before .first-usable .ensures))
 
 same-length : tie.Need-same-length
 same-length c = search needs
@@ -118,8 +117,8 @@ returns-8 : tie.Need-returns-8
 returns-8 c =
     let a = c .before .before .before .before .before .before .before .before .before .before .before .before .before .before .before .before .before .before .before .before .before .before .args in
     let v = c .before .before .before .before .show in
-    let clear = all-clear (a .width) (a .height) (a .setting) (a .plate .now) (a .at) (length (a .path .now)) (length (a .work .now)) (five-clear (c .before .before .before .before .before .before .before .before .before .before .before .before .before .before .before )) (c .before .before .before .before .before .before .before .before .before .before .before .before .before .before .if2 .left) (c .before .before .before .before .before .before .before .before .before .before .before .before .if3 .left) (c .before .before .before .before .before .before .before .before .before .before .if4 .left) (c .before .before .before .before .before .before .before .before .before .if5 .left) _ (c .before .before .before .before .before .before .before .before .first-usable .ensures) (c .before .before .before .before .before .before .before .if6 .left) in
-    (v .ensures .0 ∙ sym (clear-accepted (traceChecks (a .width) (a .height) (a .setting) (length (a .plate .now)) (a .at) (length (a .path .now)) (length (a .work .now))) (levelAt (filtered (a .setting) (a .width) (a .height) (a .plate .now)) (a .at)) clear), v .ensures .1)
+    let clear = all-clear (a .width) (a .height) (a .setting) (a .plate .now) (a .at) (length (a .path .now)) (length (a .work .now)) (five-clear (c .before .before .before .before .before .before .before .before .before .before .before .before .before .before .before)) (c .before .before .before .before .before .before .before .before .before .before .before .before .before .before .if2 .left) (c .before .before .before .before .before .before .before .before .before .before .before .before .if3 .left) (c .before .before .before .before .before .before .before .before .before .before .if4 .left) (c .before .before .before .before .before .before .before .before .before .if5 .left) _ (c .before .before .before .before .before .before .before .before .first-usable .ensures) (c .before .before .before .before .before .before .before .if6 .left) in
+    (v .ensures .0 ∙ all-passed (a .width) (a .height) (a .setting) (a .plate .now) (a .at) (length (a .path .now)) (length (a .work .now)) clear, v .ensures .1)
 
 pub trace-spec : {M : Type 1} → statement M
 trace-spec =
