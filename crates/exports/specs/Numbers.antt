@@ -2,7 +2,9 @@
 use Prim.Native.Nat.{ℕ, _+_, _*_}
 use mathlib.Core.Path.{_≡_}
 use mathlib.Core.Bool.{cond, _||_}
+use mathlib.Core.List.{List}
 use lib.Dec.{ltb}
+use lib.IntN.{ℤ}
 use Rattle.plate.specs.Limits.{maxGaps}
 use Rattle.plate.specs.Refusals.{Verdict, Verdict.accepted, Verdict.refused, badSize}
 use Rattle.plate.specs.declared.setting.Setting.{Setting}
@@ -33,6 +35,16 @@ lentAfter (refused number place) new old = old
 abbrev pub freeAfter : {A X : Type 0} → Verdict A → X → X → Type 0
 freeAfter (accepted a) old new = Unit
 freeAfter (refused number place) old new = new ≡ old
+
+-- a lent level: the trace's, or what it was before a refusal
+abbrev pub levelAfter : Verdict ℤ → ℤ → ℤ
+levelAfter (accepted level) old = level
+levelAfter (refused number place) old = old
+
+-- the direction, the path and the work buffer lent to a trace: shown and spent, or as they were before a refusal
+abbrev pub shownAfter : Verdict ℤ → (ℕ → ℤ → List ℕ → Type 0) → ℕ → ℕ → List ℕ → List ℕ → List ℕ → List ℕ → Type 0
+shownAfter (accepted level) shown direction direction′ path path′ work work′ = shown direction′ level path′
+shownAfter (refused number place) shown direction direction′ path path′ work work′ = (direction′ ≡ direction) × (path′ ≡ path) × (work′ ≡ work)
 
 -- a walker's step: 1 where it leads to a place, which is then written, 0 where it leaves
 abbrev pub hasMoved : Moved → ℕ

@@ -6,13 +6,15 @@ ghost use mathlib.Core.Path.{_≡_};
 ghost use lib.ListN.{length as size};
 ghost use Rattle.plate.specs.Levels.{correctedPlate};
 ghost use Rattle.plate.specs.Opening.{filtered};
-ghost use Rattle.plate.specs.Refusals.{settingVerdict, correctionVerdict, filterVerdict};
+ghost use Rattle.plate.specs.Refusals.{settingVerdict, correctionVerdict, filterVerdict, traceVerdict};
 ghost use Rattle.plate.specs.Answers.{walked};
-ghost use Rattle.exports.specs.Numbers.{settingOf, numberOf, placeOf, lentAfter, freeAfter, hasMoved, placeAfter, workLength};
+ghost use Rattle.theory.specs.Trace.{Shows};
+ghost use Rattle.exports.specs.Numbers.{settingOf, numberOf, placeOf, lentAfter, freeAfter, levelAfter, shownAfter, hasMoved, placeAfter, workLength};
 use plate::Answer;
 use plate::Made;
 use plate::Moved;
 use plate::Setting;
+use plate::Traced;
 use plate::Walker;
 
 // 0, or the refusal of the setting: 2 to 5.
@@ -130,5 +132,46 @@ pub extern "C" fn diilvak_filter(
     match answer {
         Answer::Done => 0,
         Answer::Refused { number, place: _ } => number,
+    }
+}
+
+// The path of best level through the pixel at `at`: its places in `path`, its direction's bit and the
+// pixel's filtered level in the lent numbers.
+#[no_mangle]
+pub extern "C" fn diilvak_trace(
+    width: usize,
+    height: usize,
+    plate: &[i16],
+    length: usize,
+    gaps: usize,
+    directions: usize,
+    mode: usize,
+    at: usize,
+    path: &mut [usize],
+    work: &mut [u16],
+    direction: &mut usize,
+    level: &mut i16,
+) -> usize
+    ensures { λ r. ⌜ r ≡ numberOf (traceVerdict width height (settingOf length gaps directions mode) (now (plate .entry)) at (size (now (path .entry))) (size (now (work .entry)))) ⌝ }
+    ensures { λ r. ⌜ now (level .exit) ≡ levelAfter (traceVerdict width height (settingOf length gaps directions mode) (now (plate .entry)) at (size (now (path .entry))) (size (now (work .entry)))) (now (level .entry)) ⌝ }
+    ensures { λ r. ⌜ shownAfter (traceVerdict width height (settingOf length gaps directions mode) (now (plate .entry)) at (size (now (path .entry))) (size (now (work .entry)))) (Shows (settingOf length gaps directions mode) width height (now (plate .entry)) at) (now (direction .entry)) (now (direction .exit)) (now (path .entry)) (now (path .exit)) (now (work .entry)) (now (work .exit)) ⌝ }
+{
+    let setting = Setting {
+        length: length,
+        gaps: gaps,
+        directions: directions,
+        mode: mode,
+    };
+    let traced = tracing::trace(width, height, plate, setting, at, path, work);
+    match traced {
+        Traced::Path {
+            direction: bit,
+            level: found,
+        } => {
+            *direction = bit;
+            *level = found;
+            0
+        }
+        Traced::Refused { number, place: _ } => number,
     }
 }
