@@ -11,5 +11,6 @@ pub mod Decimals
 pub mod SignedDecimals
 pub mod Parted
 pub mod OutLines
+pub mod Lengths
 pub mod Requests
 pub mod WorkedTexts

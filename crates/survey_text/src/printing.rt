@@ -68,7 +68,7 @@ fn level_line(level: i16, out: &mut [u8], at: usize) -> usize
     put(b'\n', out, next)
 }
 
-fn path_line(path: &[u16], out: &mut [u8], at: usize) -> usize
+fn path_line(path: &[usize], out: &mut [u8], at: usize) -> usize
     requires { ⌜ Room (pathLine (now path)) at (now out) ⌝ }
     ensures { λ r. ⌜ Written (pathLine (now (path .entry))) at (now (out .entry)) (now (out .exit)) r ⌝ }
 {
@@ -78,7 +78,7 @@ fn path_line(path: &[u16], out: &mut [u8], at: usize) -> usize
 }
 
 // The way bit, the level and the places of a trace.
-pub fn print_trace(way: usize, level: i16, path: &[u16], out: &mut [u8], at: usize) -> usize
+pub fn print_trace(way: usize, level: i16, path: &[usize], out: &mut [u8], at: usize) -> usize
     requires { ⌜ Room (traceText way level (now path)) at (now out) ⌝ }
     ensures { λ r. ⌜ Written (traceText way level (now (path .entry))) at (now (out .entry)) (now (out .exit)) r ⌝ }
 {

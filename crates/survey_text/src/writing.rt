@@ -78,18 +78,18 @@ pub fn put_levels(levels: &[i16], out: &mut [u8], at: usize) -> usize
 }
 
 // Places parted by commas.
-pub fn put_places(places: &[u16], out: &mut [u8], at: usize) -> usize
+pub fn put_places(places: &[usize], out: &mut [u8], at: usize) -> usize
     requires { ⌜ Room (parted (map decimal (now places))) at (now out) ⌝ }
     ensures { λ r. ⌜ Written (parted (map decimal (now (places .entry)))) at (now (out .entry)) (now (out .exit)) r ⌝ }
 {
     if places.len() == 0 {
         return at;
     }
-    let mut next = put_number(places[0] as usize, out, at);
+    let mut next = put_number(places[0], out, at);
     let mut i = 1;
     while i < places.len() {
         next = put(b',', out, next);
-        next = put_number(places[i] as usize, out, next);
+        next = put_number(places[i], out, next);
         i += 1;
     }
     next

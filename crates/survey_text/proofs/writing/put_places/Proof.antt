@@ -24,9 +24,6 @@ returns c = rw (parted-none decimal (c .before .before .before .args .places .no
 shared-slice-read-put-number : tie.Need-shared-slice-read-put-number Inv-loop μ-loop
 shared-slice-read-put-number c = search needs
 
-cast-put-number : tie.Need-cast-put-number Inv-loop μ-loop
-cast-put-number c = omega (arith, c .shared-slice-known2 .given 0)
-
 -- the first place, and the others
 abbrev head : tie.Else1 Inv-loop μ-loop → List ℕ
 head c = decimal (getD (c .before .before .before .args .places .now) 0 0)
@@ -60,9 +57,6 @@ mul-put-number c = search needs
 
 shared-slice-read-put-number-2 : tie.Need-shared-slice-read-put-number-2 Inv-loop μ-loop
 shared-slice-read-put-number-2 c = search needs
-
-cast-put-number-2 : tie.Need-cast-put-number-2 Inv-loop μ-loop
-cast-put-number-2 c = omega (arith, c .shared-slice-known3 .given (c .before .before .before .before .before .before .loop .i))
 
 put-number-requires-2 : tie.Need-put-number-requires-2 Inv-loop μ-loop
 put-number-requires-2 c κs = let q = c .before .before .before .before in
@@ -108,13 +102,11 @@ put-places-spec =
     μ-loop
     returns
     shared-slice-read-put-number
-    cast-put-number
     put-number-requires
     loop-holds
     put-requires
     mul-put-number
     shared-slice-read-put-number-2
-    cast-put-number-2
     put-number-requires-2
     add-i
     loop-less

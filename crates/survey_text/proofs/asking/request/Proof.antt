@@ -10,8 +10,8 @@ use Rattle.survey_text.specs.Reading.{maxPlate, reading}
 use Rattle.survey_text.specs.Survey.{requested}
 use Rattle.survey_text.proofs.Heads.{reading-sized}
 use Rattle.survey_text.proofs.Requests.{withLists, not-corrected, setting-checked}
-use Rattle.survey_text.proofs.request.request.Statement.{statement}
-use Rattle.survey_text.proofs.request.request.Tie as tie
+use Rattle.survey_text.proofs.asking.request.Statement.{statement}
+use Rattle.survey_text.proofs.asking.request.Tie as tie
 
 slice-aggregate-read : tie.Need-slice-aggregate-read
 slice-aggregate-read c = search needs

@@ -2,8 +2,8 @@
 use borrow.Author.Needs.{needs}
 use mathlib.Core.Path.{ap}
 use Rattle.survey_text.specs.Answers.{checkedTold}
-use Rattle.survey_text.proofs.request.checked.Statement.{statement}
-use Rattle.survey_text.proofs.request.checked.Tie as tie
+use Rattle.survey_text.proofs.asking.checked.Statement.{statement}
+use Rattle.survey_text.proofs.asking.checked.Tie as tie
 
 checked-requires : tie.Need-checked-requires
 checked-requires c κs = search needs

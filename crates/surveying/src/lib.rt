@@ -1,0 +1,91 @@
+// The survey (document 01, section 6) as one function from text to text: reading, correction, setting,
+// filter, trace and printing in one call.
+//
+// specs/Surveying.antt says what it answers, by survey_text's definition of the answer and theory's of
+// what a trace shows.
+ghost use mathlib.Core.Path.{_≡_};
+ghost use Prim.Native.Nat.{_≤_};
+ghost use lib.ListN.{length};
+ghost use Rattle.survey_text.specs.Reading.{maxPlate};
+ghost use Rattle.surveying.specs.Surveying.{maxOutput, Surveyed};
+ghost use Rattle.surveying.specs.Steps.{maxWork, asked, Ready, SurveyWritten};
+use crate::showing::show_plate;
+use crate::showing::show_trace;
+use survey_text::Header;
+use survey_text::MAX_PLATE;
+use survey_text::Reading;
+
+mod showing;
+
+// No answer is longer, in bytes.
+pub const MAX_OUTPUT: usize = 16384;
+
+// Four sets of nine planes of the largest plate.
+const MAX_WORK: usize = 18432;
+
+// Writes the answer to a text at the front of out, and answers how many bytes it is. Into a buffer
+// that is shorter than MAX_OUTPUT it writes nothing.
+pub fn survey(text: &[u8], out: &mut [u8]) -> usize
+    ensures { λ r. ⌜ Surveyed (now (text .entry)) (now (out .entry)) (now (out .exit)) r ⌝ }
+{
+    if out.len() < MAX_OUTPUT {
+        return 0;
+    }
+    let mut levels = [0i16; MAX_PLATE];
+    let got = survey_text::request(text, &mut levels);
+    match got {
+        Reading::Refused { number, place } => survey_text::print_refusal(number, place, out, 0),
+        Reading::Plate(head) => {
+            let n = head.width * head.height;
+            answer(head, &levels[..n], out)
+        }
+    }
+}
+
+// The answer to a survey that passed the checks of its text; the buffers of the largest plate.
+fn answer(head: Header, levels: &[i16], out: &mut [u8]) -> usize
+    requires { ⌜ Ready (asked head (now levels)) ⌝ }
+    requires { ⌜ maxOutput ≤ length (now out) ⌝ }
+    ensures { λ r. ⌜ SurveyWritten (asked head (now (levels .entry))) (now (out .entry)) (now (out .exit)) r ⌝ }
+{
+    let mut result = [0i16; MAX_PLATE];
+    let mut path = [0usize; MAX_PLATE];
+    let mut work = work_buffer();
+    show(head, levels, &mut result, &mut path, &mut work, out)
+}
+
+// What is in it before the first use is free, so that its length is all that is said.
+fn work_buffer() -> [u16; MAX_WORK]
+    ensures { λ r. ⌜ maxWork ≡ length r ⌝ }
+{
+    [0; MAX_WORK]
+}
+
+// The filtered plate, then the trace.
+fn show(
+    head: Header,
+    levels: &[i16],
+    result: &mut [i16],
+    path: &mut [usize],
+    work: &mut [u16],
+    out: &mut [u8],
+) -> usize
+    requires { ⌜ Ready (asked head (now levels)) ⌝ }
+    requires { ⌜ maxPlate ≤ length (now result) ⌝ }
+    requires { ⌜ maxPlate ≤ length (now path) ⌝ }
+    requires { ⌜ maxWork ≤ length (now work) ⌝ }
+    requires { ⌜ maxOutput ≤ length (now out) ⌝ }
+    ensures { λ r. ⌜ SurveyWritten (asked head (now (levels .entry))) (now (out .entry)) (now (out .exit)) r ⌝ }
+{
+    let n = head.width * head.height;
+    engine::filter(
+        head.width,
+        head.height,
+        levels,
+        head.setting,
+        &mut result[..n],
+        work,
+    );
+    let next = show_plate(head.width, head.height, &result[..n], out);
+    show_trace(head, levels, path, work, out, next)
+}
