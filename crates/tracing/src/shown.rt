@@ -48,8 +48,10 @@ pub(crate) fn show(
     let longest = engine::span_of(width, height, found.index);
     let scan = engine::scan_of(width, height, setting, found.index, longest);
     draw(path, work, plate, scan, found, x);
+    let direction = bit_of(found.index);
+    let level = level_by(setting, found.key);
     Traced::Path {
-        direction: bit_of(found.index),
-        level: level_by(setting, found.key),
+        direction: direction,
+        level: level,
     }
 }

@@ -26,7 +26,6 @@ follow-requires c κs =
     let s = c .before .before .before .before .before .before .before in
     let a = s .args in
     let t = s .pre .1 .1 .1 in
-    let size = length-set (a .path .now) (a .found .before) (a .x) in
     let here = getD-set-same (a .path .now) (a .found .before) (a .x) 0 (omega (arith, s .pre .1 .0, t .of-path)) in (
       s .pre .0,
       (
@@ -34,8 +33,8 @@ follow-requires c κs =
         (
           s .pre .1 .1 .0,
           (
-            (omega (arith, size, s .pre .1 .0, s .pre .0 .short), omega (arith, size, s .pre .1 .0, t .of-path)),
-            (omega (arith, size, s .pre .1 .0, t .of-path), rw here (t .from-x)),
+            (simp length-set (omega (arith, s .pre .1 .0, s .pre .0 .short)), simp length-set (omega (arith, s .pre .1 .0, t .of-path))),
+            (simp length-set (omega (arith, s .pre .1 .0, t .of-path)), rw here (t .from-x)),
           ),
         ),
       ),
@@ -47,7 +46,7 @@ follow-requires-2 c κs =
     let a = s .args in
     let t = s .pre .1 .1 .1 in
     let f = c .before .before .before .before .before .before .follow in
-    let size = f .ensures .0 .len ∙ length-set (a .path .now) (a .found .before) (a .x) in
+    let size = simp length-set at (f .ensures .0 .len) in
     let here = f .ensures .0 .kept (a .found .before) (omega arith) ∙ getD-set-same (a .path .now) (a .found .before) (a .x) 0 (omega (arith, s .pre .1 .0, t .of-path)) in (
       s .pre .0,
       (
@@ -56,7 +55,7 @@ follow-requires-2 c κs =
           s .pre .1 .1 .0,
           (
             (omega (arith, size, s .pre .1 .0, s .pre .0 .short), omega (arith, size, s .pre .1 .0, t .of-path)),
-            ((omega arith, omega (arith, size, s .pre .1 .0, t .of-path)), rw here (t .to-x)),
+            (omega (arith, size, s .pre .1 .0, t .of-path), rw here (t .to-x)),
           ),
         ),
       ),
@@ -64,9 +63,7 @@ follow-requires-2 c κs =
 
 same-length : tie.Need-same-length
 same-length c =
-    let s = c .before .before .before .before .before .before .before .before .before .before .before .before .before .before .before .before .before .before .before in
-    let a = s .args in
-    c .before .before .before .before .follow2 .kept .0 ∙ c .before .before .before .before .before .before .before .before .before .before .before .follow .kept .0 ∙ length-set (a .path .now) (a .found .before) (a .x)
+    c .before .before .before .before .follow2 .kept .0 ∙ c .before .before .before .before .before .before .before .before .before .before .before .follow .kept .0 ∙ simp length-set
 
 same-length-2 : tie.Need-same-length-2
 same-length-2 c = search needs
