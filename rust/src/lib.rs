@@ -6,7 +6,7 @@
 //!   of traces.
 //! * [`queue`]: the published fast method, path lengths updated by an ordered queue.
 //! * [`levels`]: the textbook method, one scan a level.
-//! * [`table`]: the refusal table.
+//! * [`table`]: the refusal table; [`text`]: the survey program's text.
 //! * [`plate`], [`random`]: plates, settings, directions; plates of fixed seeds.
 //!
 //! Nothing here but `engine` uses the engine's code. "Section" and "demand" are those of document 01.
@@ -18,5 +18,6 @@ pub mod plate;
 pub mod queue;
 pub mod random;
 pub mod table;
+pub mod text;
 
 pub use plate::{Plate, Refusal, Setting, Trace};
