@@ -14,5 +14,5 @@ trap 'rm -rf "$scratch"' EXIT
 } | tee "$scratch/log"
 [ "$(cat "$scratch/status")" = 0 ]
 rt staticlib exports
-(cd rust && DIILVAK_LIB_DIR="$PWD/../target/staticlib" CARGO_TARGET_DIR="$scratch/rust" cargo test --release --offline)
+(cd rust && DIILVAK_LIB_DIR="$PWD/../target/staticlib" CARGO_TARGET_DIR="$scratch/rust" cargo test --release --offline -- --nocapture)
 tail -n 1 "$scratch/log"

@@ -14,23 +14,27 @@ fn worked_plates() {
     }
 }
 
-/// Small plates: the filtered plate is the listing's, and traces meet every sentence of demand 3.
+/// Small plates: the filtered plate is the listing's, and the trace of every pixel meets every
+/// sentence of demand 3.
 #[test]
 fn small_plates_are_the_listing() {
     let mut random = Random(10);
-    for round in 0..rounds(4_000, 100_000) {
+    let plates = rounds(4_000, 100_000);
+    let mut traces = 0;
+    for round in 0..plates {
         let (plate, setting) = small_case(&mut random);
         let case = format!("round {round}: {plate:?} {setting:?}");
         let filtered = engine::filter(&plate, setting).expect("accepted");
         assert_eq!(filtered, listing::filter(&plate, setting), "{case}");
-        for _ in 0..3 {
-            let at = random.below(plate.pixels());
+        for at in 0..plate.pixels() {
             let answer = engine::trace(&plate, setting, at);
             let again = engine::trace(&filtered, setting, at);
             let verdict = judge(&plate, setting, at, &answer, &filtered, &again);
             assert_eq!(verdict, Ok(()), "{case} at {at}: {answer:?}");
         }
+        traces += plate.pixels();
     }
+    println!("{plates} plates and {traces} traces against the listing");
 }
 
 /// A plate against the queue, with some traces.
@@ -59,7 +63,8 @@ fn compare(random: &mut Random, plate: &Plate, setting: Setting, traces: usize) 
 #[test]
 fn middle_plates_are_the_queue() {
     let mut random = Random(11);
-    for round in 0..rounds(90, 3_000) {
+    let plates = rounds(90, 3_000);
+    for round in 0..plates {
         let kind = random.pick(&KINDS);
         let (width, height) = (random.within(1, 90), random.within(1, 90));
         let (plate, mut setting) = case(&mut random, kind, width, height);
@@ -67,6 +72,7 @@ fn middle_plates_are_the_queue() {
         setting.mode = round % 2;
         compare(&mut random, &plate, setting, 3);
     }
+    println!("{plates} plates against the queue");
 }
 
 #[test]
