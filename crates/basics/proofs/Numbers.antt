@@ -1,8 +1,5 @@
 -- General laws of natural numbers, for what `omega` does not find by itself: the cases of an order, of a maximum and of a small number, and the
 -- equality of two numbers or two tests from both directions.
-use Prim.Native.Nat.{ℕ, zero, suc, _≤_, _<_, max}
-use mathlib.Core.Path.{_≡_, refl, sym}
--- General laws of natural numbers.
 use Prim.Native.Nat.{ℕ, zero, suc, _+_, _-_, _*_, _≤_, _<_, max}
 use mathlib.Core.Path.{_≡_, refl, sym, subst}
 use mathlib.Core.Logic.{_⊎_, inl, inr, ⊎-elim, by-cases}

@@ -1,13 +1,18 @@
 -- All terms of a direction: those of the steps 0, 1, .. one after the other, and in the end the whole decomposition in that direction.
-use Prim.Native.Nat.{ℕ, _+_, max}
-use mathlib.Core.Path.{_≡_, refl}
+use Prim.Native.Nat.{ℕ, _+_, _*_, _≤_, max}
+use mathlib.Core.Path.{_≡_, refl, sym, ap, _∙_}
 use mathlib.Core.List.{List}
+use native.Mathlib.Nat.{mul-assoc}
+use native.Mathlib.Omega.{arith}
 use lib.IntN.{ℤ}
 use Rattle.theory.proofs.Maxima.{upto, upto-one, upto-more}
 use Rattle.theory.proofs.Decomposition.{across}
-use Rattle.engine.specs.Gathering.{Raised, termsAt, bestAt}
+use Rattle.lines.specs.Gathering.{Raised, bestOf}
+use Rattle.engine.specs.States.{Sound, keyOf, endsAt}
+use Rattle.engine.specs.Gathering.{termsAt, bestAt}
 use Rattle.engine.specs.declared.scan.Scan.{Scan}
-use Rattle.engine.proofs.RaiseLaws.{raised-twice, raised-by}
+use Rattle.engine.proofs.RaiseLaws.{raised-ends, raised-twice, raised-by}
+use Rattle.engine.proofs.Rooms.{pixels-is}
 
 -- the terms of 0 to l steps before the pixel
 unfoldable pub visited : Scan → List ℤ → ℕ → ℕ → ℕ
@@ -32,3 +37,22 @@ module _ (s : Scan) (plate : List ℤ) (n : ℕ) where
 
   pub all-visited : (old new : List ℤ) → Raised (visited s plate (s .steps)) old new 0 n → Raised (bestAt s plate) old new 0 n
   all-visited old new r = raised-by (visited s plate (s .steps)) (bestAt s plate) old new 0 n r (λ x a b. whole x)
+
+-- ---- the same by lines
+
+module _ (s : Scan) (sound : Sound s) where
+  pub lines-room : (n : ℕ) → endsAt s + s .size ≤ n → 4 * (s .gaps + 1) * (s .width * s .height) ≤ n
+  lines-room n h =
+      let size : s .size ≡ (s .gaps + 1) * (s .width * s .height) = sound .is-size ∙ ap (λ (p : ℕ). (s .gaps + 1) * p) (pixels-is s sound) in
+      omega (arith, mul-assoc 4 (s .gaps + 1) (s .width * s .height))
+
+  pub few-pixels : s .width * s .height ≤ 65536
+  few-pixels = omega (arith, sound .small, pixels-is s sound)
+
+  pub lines-best : (plate old new : List ℤ) → Raised (bestOf (s .width) (s .height) (s .index) (s .mode) (s .steps) (s .gaps) plate) old new 0 (s .width * s .height) →
+      Raised (bestAt s plate) old new 0 (s .pixels)
+  unfolding bestOf keyOf
+  lines-best plate old new r =
+      raised-ends (bestAt s plate) old new 0 (s .width * s .height) (s .pixels)
+      (raised-by (bestOf (s .width) (s .height) (s .index) (s .mode) (s .steps) (s .gaps) plate) (bestAt s plate) old new 0 (s .width * s .height) r (λ x a b. refl))
+      (sym (pixels-is s sound))

@@ -22,7 +22,8 @@ use Rattle.theory.proofs.Terms.{value-same}
 use Rattle.theory.proofs.Opening.{Levels, levels-within}
 use Rattle.theory.proofs.Mirror.{turned, turned-levels, filtered-length, levelAt-filtered}
 use Rattle.kernel.specs.Sets.{keyBy}
-use Rattle.engine.specs.Gathering.{Blank, Raised}
+use Rattle.lines.specs.Gathering.{Raised}
+use Rattle.engine.specs.Gathering.{Blank}
 use Rattle.engine.specs.Finishing.{bestOfAll, levelBy, Finished}
 
 -- the mirror's key, and the key by the mode as the key of a turned level

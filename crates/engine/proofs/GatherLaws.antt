@@ -10,22 +10,17 @@ use native.Mathlib.Numerals.{add-one}
 use native.Mathlib.Omega.{arith}
 use lib.Arith.{digits-div, digits-mod}
 use lib.ListN.{length, getD}
-use lib.IntN.{ℤ, pos}
-use lib.Signed.{mag}
-use mir.Syntax.{w16}
-use mir.Val.{toZ, ofZ}
-use mir.Facts.{toZ-ofZ}
+use lib.IntN.{ℤ}
 use Rattle.basics.proofs.Numbers.{le-or-lt, rows-fit}
-use Rattle.plate.specs.Levels.{key}
 use Rattle.theory.proofs.Ranks.{rank}
 use Rattle.theory.proofs.LevelSets.{reach, reach-none}
 use Rattle.theory.proofs.Maxima.{upto, upto-least, upto-one, upto-more}
 use Rattle.theory.proofs.Decomposition.{keyAt, joinedAt}
 use Rattle.kernel.specs.Sets.{rank as rankIn, InBand}
 use Rattle.kernel.specs.Rows.{Covers}
-use Rattle.kernel.proofs.KeyLaws.{level-read}
 use Rattle.engine.specs.States.{bitOf, onward, keyOf, Sound, Holds, cells, endsAt}
-use Rattle.engine.specs.Gathering.{Raised, joined, termsAt}
+use Rattle.lines.specs.Gathering.{Raised}
+use Rattle.engine.specs.Gathering.{joined, termsAt}
 use Rattle.engine.specs.declared.scan.Scan.{Scan}
 use Rattle.engine.proofs.Rooms.{room-back, room-on, rank-below, walk-room, rank-in}
 use Rattle.engine.proofs.RaiseLaws.{raised-to-nothing, raised-twice, raised-row}
@@ -213,11 +208,3 @@ module _ (s : Scan) (sound : Sound s) (work : List ℕ) (plate : List ℤ) (l : 
           let c : InBand (s .index) (s .height) l (l + s .spare) r (x - base) = record { low = omega arith; high = omega arith } in
           out (omega (arith, run .left (x - base) (omega arith) c)) (omega (arith, run .right (x - base) (omega arith) c))))
           (omega (arith, run .ordered))
-
--- ---- one pixel
-
--- a level that is stored and one that is read, by their keys
-pub raised-level : (xs : List ℤ) (x : ℕ) (v : ℤ) (t : ℕ) → mag v < 32768 → mag (getD xs x (pos 0)) < 32768 → x < length xs →
-    key v ≡ max (key (toZ w16 (ofZ w16 (getD xs x (pos 0))))) t → key (toZ w16 (ofZ w16 v)) ≡ max (keyAt xs x) t
-raised-level xs x v t fv fx on e =
-    ap key (toZ-ofZ {w = w16} {z = v} (record { sfits = fv })) ∙ level-read (λ u. max (key u) t) xs x (key v) fx on e

@@ -10,7 +10,7 @@ use lib.IntN.{ℤ}
 use Rattle.basics.proofs.Numbers.{le-or-lt}
 use Rattle.plate.specs.Levels.{lowest, key}
 use Rattle.theory.proofs.Decomposition.{keyAt}
-use Rattle.engine.specs.Gathering.{Raised}
+use Rattle.lines.specs.Gathering.{Raised}
 
 -- nothing is raised yet
 pub raised-none : (f : ℕ → ℕ) (old : List ℤ) (lo hi : ℕ) → hi ≤ lo → Raised f old old lo hi

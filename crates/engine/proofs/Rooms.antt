@@ -10,18 +10,11 @@ use native.Mathlib.Omega.{arith}
 use Rattle.basics.proofs.Numbers.{below-four}
 use Rattle.plate.specs.Directions.{table}
 use Rattle.theory.proofs.Walks.{Walk}
-use Rattle.theory.proofs.Ranks.{rankAt, rank, bits, Ranked, ranked}
+use Rattle.theory.proofs.Ranks.{rankAt, rank, bit-listed, Ranked, ranked}
 use Rattle.theory.proofs.Sides.{Side, side}
 use Rattle.kernel.specs.Sets.{rank as rankIn, InBand}
 use Rattle.engine.specs.States.{bitOf, roomAt, onward, Sound, bandStart}
 use Rattle.engine.specs.declared.scan.Scan.{Scan}
-
--- the bit of the direction at an index of the table
-pub bit-listed : (index : ℕ) → index < 4 → List·Memᴰ (2 ^ index) bits
-unfolding table
-bit-listed index h =
-    below-four (λ (i : ℕ). List·Memᴰ (2 ^ i) bits) (List·Memᴰ·head refl) (List·Memᴰ·tail (List·Memᴰ·head refl))
-    (List·Memᴰ·tail (List·Memᴰ·tail (List·Memᴰ·head refl))) (List·Memᴰ·tail (List·Memᴰ·tail (List·Memᴰ·tail (List·Memᴰ·head refl)))) index h
 
 -- the kernel's rank, by the index, is that of the definitions
 pub same-rank : (index h r c : ℕ) → index < 4 → rankIn index h r c ≡ rankAt h (2 ^ index) c r

@@ -20,16 +20,16 @@ use Rattle.plate.specs.Opening.{levelAt}
 use Rattle.plate.specs.declared.setting.Setting.{Setting}
 use Rattle.theory.proofs.Listed.{walk-started}
 use Rattle.theory.proofs.Maxima.{best}
-use Rattle.theory.proofs.Ranks.{bits, ranked}
+use Rattle.theory.proofs.Ranks.{bits, ranked, bit-listed}
 use Rattle.theory.proofs.Span.{walk-fits}
 use Rattle.theory.proofs.Terms.{across-none}
 use Rattle.kernel.specs.Sets.{keyBy}
 use Rattle.theory.proofs.Sides.{around}
 use Rattle.engine.specs.States.{Sound, keyOf, endsAt}
-use Rattle.engine.specs.Gathering.{Raised, bestAt}
+use Rattle.lines.specs.Gathering.{Raised}
+use Rattle.engine.specs.Gathering.{bestAt}
 use Rattle.engine.specs.Finishing.{Accepted, ScanOf, bestIn, bestIfChosen, bestOfAll}
 use Rattle.engine.specs.declared.scan.Scan.{Scan}
-use Rattle.engine.proofs.Rooms.{bit-listed}
 use Rattle.engine.proofs.RaiseLaws.{raised-to-nothing, raised-ends, raised-twice, raised-by}
 
 -- ---- the scan of a direction
@@ -54,15 +54,16 @@ scanBy mode W H k index steps spare q =
       inner = q;
     }
 
-pub scan-sound : (mode W H k index L longest steps q : ℕ) → 1 ≤ W → W ≤ 1024 → 1 ≤ H → H ≤ 1024 → k ≤ 8 → index < 4 → 1 ≤ L → L ≤ longest → longest ≤ 2047 →
+pub scan-sound : (mode W H k index L longest steps q : ℕ) → 1 ≤ W → W ≤ 1024 → 1 ≤ H → H ≤ 1024 → W * H ≤ 65536 → k ≤ 8 → index < 4 → 1 ≤ L → L ≤ longest → longest ≤ 2047 →
     longest ≡ span W H (2 ^ index) → steps ≡ L - 1 → 1 ≤ q → Sound (scanBy mode W H k index steps (longest - L) q)
-scan-sound mode W H k index L longest steps q a b c d e f g h i s t p =
+scan-sound mode W H k index L longest steps q a b c d n e f g h i s t p =
     record {
       wide = a;
       narrow = b;
       high = c;
       low = d;
       is-pixels = refl;
+      small = omega (arith, mul-comm H W);
       few = e;
       is-size = refl;
       known = f;

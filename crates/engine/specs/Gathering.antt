@@ -8,15 +8,9 @@ use lib.ListN.{length, getD}
 use lib.IntN.{ℤ}
 use Rattle.theory.proofs.Maxima.{upto}
 use Rattle.theory.proofs.Decomposition.{keyAt, joinedAt, across}
+use Rattle.lines.specs.Gathering.{Raised}
 use Rattle.engine.specs.States.{Holds, onward, keyOf, cells, endsAt}
 use Rattle.engine.specs.declared.scan.Scan.{Scan}
-
--- the levels from lo below hi have risen to f where they were lower, and the others are as they were
-pub record Raised (f : ℕ → ℕ) (old new : List ℤ) (lo hi : ℕ) : Type 0 where
-  pub inside : (x : ℕ) → lo ≤ x → x < hi → keyAt new x ≡ max (keyAt old x) (f x)
-  pub under : (x : ℕ) → x < lo → keyAt new x ≡ keyAt old x
-  pub over : (x : ℕ) → hi ≤ x → keyAt new x ≡ keyAt old x
-  pub len : length new ≡ length old
 
 -- all levels are the lowest
 pub record Blank (old new : List ℤ) : Type 0 where

@@ -37,6 +37,7 @@ pub record Sound (s : Scan) : Type 0 where
   pub high : 1 ≤ s .height
   pub low : s .height ≤ 1024
   pub is-pixels : s .pixels ≡ s .height * s .width
+  pub small : s .pixels ≤ 65536
   pub few : s .gaps ≤ 8
   pub is-size : s .size ≡ (s .gaps + 1) * s .pixels
   pub known : s .index < 4

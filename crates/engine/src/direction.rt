@@ -4,7 +4,8 @@ ghost use mathlib.Core.Bool.{true, false};
 ghost use Prim.Native.Nat.{_+_, _≤_};
 ghost use lib.ListN.{length};
 ghost use Rattle.engine.specs.States.{Sound, Holds, Checkpoints, cells, endsAt};
-ghost use Rattle.engine.specs.Gathering.{Raised, termsAt, bestAt};
+ghost use Rattle.lines.specs.Gathering.{Raised};
+ghost use Rattle.engine.specs.Gathering.{termsAt, bestAt};
 use crate::checkpoints::Held;
 use crate::checkpoints::fetch;
 use crate::gather::gather;
@@ -35,7 +36,7 @@ fn visit(
 }
 
 // All walks of a direction.
-pub(crate) fn scan_direction(result: &mut [i16], work: &mut [u16], plate: &[i16], scan: Scan)
+fn scan_direction(result: &mut [i16], work: &mut [u16], plate: &[i16], scan: Scan)
     requires { ⌜ Sound scan ⌝ }
     requires { ⌜ (length (now plate) ≡ scan .pixels) × (length (now result) ≡ scan .pixels) × (endsAt scan + scan .size ≤ length (now work)) ⌝ }
     ensures { λ _. ⌜ Raised (bestAt scan (now (plate .entry))) (now (result .entry)) (now (result .exit)) 0 (scan .pixels) ⌝ }
@@ -53,4 +54,28 @@ pub(crate) fn scan_direction(result: &mut [i16], work: &mut [u16], plate: &[i16]
         l += 1;
         held = visit(result, work, plate, scan, held, l);
     }
+}
+
+// The same line by line, which takes far fewer steps, wherever the work buffer has room for it.
+pub(crate) fn open_direction(result: &mut [i16], work: &mut [u16], plate: &[i16], scan: Scan)
+    requires { ⌜ Sound scan ⌝ }
+    requires { ⌜ (length (now plate) ≡ scan .pixels) × (length (now result) ≡ scan .pixels) × (endsAt scan + scan .size ≤ length (now work)) ⌝ }
+    ensures { λ _. ⌜ Raised (bestAt scan (now (plate .entry))) (now (result .entry)) (now (result .exit)) 0 (scan .pixels) ⌝ }
+{
+    let opened = lines::open_direction(
+        result,
+        work,
+        plate,
+        scan.mode,
+        scan.width,
+        scan.height,
+        scan.gaps,
+        scan.index,
+        scan.steps,
+        scan.spare,
+    );
+    if opened {
+        return;
+    }
+    scan_direction(result, work, plate, scan);
 }

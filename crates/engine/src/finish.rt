@@ -6,7 +6,7 @@ ghost use Rattle.plate.specs.Levels.{key};
 ghost use Rattle.kernel.specs.Sets.{keyBy};
 ghost use Rattle.engine.specs.Gathering.{Blank};
 ghost use Rattle.engine.specs.Finishing.{Finished, levelBy};
-use crate::sets::key_by;
+use kernel::key_by;
 
 // Every level the lowest: no path is found yet.
 pub(crate) fn blank(result: &mut [i16])

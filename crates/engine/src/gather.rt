@@ -4,7 +4,8 @@ ghost use Prim.Native.Nat.{ℕ, _+_, _≤_, _<_, min, max};
 ghost use lib.ListN.{length, getD};
 ghost use Rattle.plate.specs.Levels.{key};
 ghost use Rattle.engine.specs.States.{Sound, endsAt};
-ghost use Rattle.engine.specs.Gathering.{Raised, Gathered, joined};
+ghost use Rattle.lines.specs.Gathering.{Raised};
+ghost use Rattle.engine.specs.Gathering.{Gathered, joined};
 use crate::scan::Scan;
 
 // A level, raised to the lower of two keys.

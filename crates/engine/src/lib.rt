@@ -2,15 +2,16 @@
 //
 // The method is the published decomposition, taken on grey levels: the best path through a pixel is the
 // best walk that ends there joined with the best walk that goes on from there, over all ways to share
-// the steps and the gaps. Both kinds of walk are kept as plane sets in the work buffer: the walks that
-// end grow by one step at a time (sets.rt), those that go on are wanted at ever fewer steps and are made
+// the steps and the gaps. A direction is opened line by line (the crate lines) wherever the work buffer
+// has room for four states of a line, which it lacks only for paths longer than both sides of the plate.
+// There, and in the trace, both kinds of walk are kept as plane sets of the whole plate: the walks that end
+// grow by one step at a time (sets.rt), those that go on are wanted at ever fewer steps and are made
 // again from two checkpoints (checkpoints.rt). What is found is gathered in the result itself
 // (gather.rt), one direction after the other (direction.rt, sweep.rt), and in the end held below each
 // pixel's own level (finish.rt).
 //
-// A call takes time by the sizes and the setting alone, some 3/2 L^(4/3) steps of (gaps + 1) planes a
-// direction, and about 64 KB of stack, nearly all of it the held rows of the kernel. There is no
-// recursion.
+// A call takes time by the sizes and the setting alone, and about 70 KB of stack, nearly all of it the
+// held rows of the kernel. There is no recursion.
 ghost use mathlib.Core.Path.{_≡_};
 ghost use lib.ListN.{length};
 ghost use Rattle.plate.specs.Opening.{filtered};
@@ -34,7 +35,6 @@ use plate::Made;
 use plate::Setting;
 use plate::refusal;
 pub use scan::Scan;
-pub use sets::key_by;
 pub use sets::run_at;
 pub use sets::start_at;
 pub use sweep::scan_of;

@@ -10,17 +10,7 @@ ghost use Rattle.kernel.specs.Runs.{Between};
 ghost use Rattle.engine.specs.States.{Sound, Holds, Apart, numbers, cells};
 use crate::scan::Scan;
 use crate::scan::band_start;
-
-// A level's key, or in another mode than 0 that of its mirror.
-pub fn key_by(mode: usize, v: i16) -> u16
-    ensures { λ r. ⌜ r ≡ keyBy mode v ⌝ }
-{
-    let key = plate::key_of(v);
-    if mode == 0 {
-        return key;
-    }
-    65535 - key
-}
+use kernel::key_by;
 
 // set[p] = the key of plate[p], for every pixel. Each level is read, and so is one of 16 bits.
 fn fill_keys(set: &mut [u16], plate: &[i16], mode: usize)

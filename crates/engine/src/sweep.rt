@@ -5,9 +5,9 @@ ghost use lib.ListN.{length};
 ghost use Rattle.plate.specs.Paths.{span};
 ghost use Rattle.plate.specs.Opening.{filtered};
 ghost use Rattle.engine.specs.States.{Sound};
-ghost use Rattle.engine.specs.Gathering.{Raised};
+ghost use Rattle.lines.specs.Gathering.{Raised};
 ghost use Rattle.engine.specs.Finishing.{Accepted, ScanOf, bestIfChosen, bestOfAll};
-use crate::direction::scan_direction;
+use crate::direction::open_direction;
 use crate::finish::blank;
 use crate::finish::finish;
 use crate::scan::Scan;
@@ -98,7 +98,7 @@ fn scan_if_chosen(
         return;
     }
     let scan = scan_of(width, height, setting, index, longest);
-    scan_direction(result, work, plate, scan);
+    open_direction(result, work, plate, scan);
 }
 
 fn scan_chosen(

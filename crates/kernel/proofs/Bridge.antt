@@ -16,8 +16,9 @@ use Rattle.theory.proofs.Reversal.{minus, back}
 use Rattle.theory.proofs.Maxima.{best}
 use Rattle.theory.proofs.LevelSets.{fewer}
 use Rattle.theory.proofs.Sides.{around}
-use Rattle.kernel.specs.Sets.{keyBy, across, down, layer, ahead, renewed, InBand, Advanced}
-use Rattle.kernel.proofs.Landing.{toward, Small, Small.one-less, Small.no-change, Small.one-more, landing, step-cell}
+use Rattle.kernel.specs.Sets.{keyBy, across, down, cell, layer, ahead, renewed, InBand, Advanced}
+use Rattle.kernel.proofs.CellLaws.{plateSpot}
+use Rattle.kernel.proofs.Landing.{toward, Small, Small.one-less, Small.no-change, Small.one-more, landing, step-spot}
 
 -- the numbers of plane j, by their place
 abbrev pub planeAt : List ℕ → ℕ → ℕ → ℕ → ℕ
@@ -77,6 +78,28 @@ unfolding around back next toward
 around-steps true W H index p h = ap (λ (ss : List Step). reachedBy W H (map minus ss) p) (steps-at index h)
 around-steps false W H index p h = ap (λ (ss : List Step). reachedBy W H ss p) (steps-at index h)
 
+-- the best place that one step leads to, in coordinates plus one
+pub best-around :
+    (f : ℕ → ℕ) (W H index : ℕ) (backwards : Bool) (p : ℕ) → index < 4 → p < W * H →
+    best f (around backwards W H (2 ^ index) p)
+    ≡ max
+    (max
+    (plateSpot f W H (p / W + down index 0 backwards) (p % W + across index 0 backwards))
+    (plateSpot f W H (p / W + down index 1 backwards) (p % W + across index 1 backwards)))
+    (plateSpot f W H (p / W + down index 2 backwards) (p % W + across index 2 backwards))
+unfolding across down
+best-around f W H index backwards p known on =
+    let s₀ = small-steps index 0 known (omega arith) in
+    let s₁ = small-steps index 1 known (omega arith) in
+    let s₂ = small-steps index 2 known (omega arith) in
+    ap (best f) (around-steps backwards W H index p known)
+    ∙ best-three f W H p (toward backwards (stepAt index 0)) (toward backwards (stepAt index 1)) (toward backwards (stepAt index 2))
+    ∙ rw (
+      step-spot f W H backwards (stepAt index 0) p (s₀ .column) (s₀ .row) on,
+      step-spot f W H backwards (stepAt index 1) p (s₁ .column) (s₁ .row) on,
+      step-spot f W H backwards (stepAt index 2) p (s₂ .column) (s₂ .row) on,
+    )
+
 -- ---- the kernel's step
 
 module _ (a : List ℕ) (w h index : ℕ) (backwards : Bool) (p : ℕ) (known : index < 4) (on : p < w * h) where
@@ -85,20 +108,8 @@ module _ (a : List ℕ) (w h index : ℕ) (backwards : Bool) (p : ℕ) (known : 
   ahead-none = refl
 
   pub ahead-best : (j : ℕ) → ahead a w h index backwards (suc j) (p / w) (p % w) ≡ best (planeAt a (h * w) j) (around backwards w h (2 ^ index) p)
-  unfolding ahead layer across down
-  ahead-best j =
-      let g = planeAt a (h * w) j in
-      let s₀ = small-steps index 0 known (omega arith) in
-      let s₁ = small-steps index 1 known (omega arith) in
-      let s₂ = small-steps index 2 known (omega arith) in
-      sym
-      (ap (best g) (around-steps backwards w h index p known)
-      ∙ best-three g w h p (toward backwards (stepAt index 0)) (toward backwards (stepAt index 1)) (toward backwards (stepAt index 2))
-      ∙ rw (
-        step-cell a (j * (h * w)) w h backwards (stepAt index 0) p (s₀ .column) (s₀ .row) on,
-        step-cell a (j * (h * w)) w h backwards (stepAt index 1) p (s₁ .column) (s₁ .row) on,
-        step-cell a (j * (h * w)) w h backwards (stepAt index 2) p (s₂ .column) (s₂ .row) on,
-      ))
+  unfolding ahead layer cell plateSpot
+  ahead-best j = sym (best-around (planeAt a (h * w) j) w h index backwards p known on)
 
   lower-best :
       (j : ℕ) → ahead a w h index backwards j (p / w) (p % w) ≡ fewer (λ i. best (planeAt a (h * w) i) (around backwards w h (2 ^ index) p)) j

@@ -1,20 +1,18 @@
--- The number at a step's end. In coordinates plus one it is a cell, in the signed coordinates of the definitions the number at the place that the
+-- The number at a step's end. In coordinates plus one it is a spot of the plate, in the signed coordinates of the definitions the number at the place that the
 -- step reaches, 0 where it leaves: the two are the same, because a change plus one never falls below zero.
 use Prim.Native.Nat.{ℕ, zero, suc, _+_, _-_, _*_, _/_, _%_, _<_}
 use mathlib.Core.Path.{_≡_, refl, sym, ap, _∙_}
 use mathlib.Core.Logic.{inl, inr}
 use mathlib.Core.Bool.{Bool, true, false, cond}
-use mathlib.Core.List.{List}
 use native.Mathlib.Omega.{arith}
-use lib.ListN.{getD}
 use lib.IntN.{ℤ, pos, negsuc, negℤ, _+ℤ_}
 use borrow.Author.Tests.{le-ltb, lt-ltb}
 use Rattle.basics.proofs.Numbers.{le-or-lt}
 use Rattle.plate.specs.Directions.{Step}
 use Rattle.plate.specs.Paths.{Reached, Reached.at, Reached.leaves, placeAt, stepFrom}
 use Rattle.theory.proofs.Reversal.{minus}
-use Rattle.kernel.specs.Sets.{plusOne, biased, cell}
-use Rattle.kernel.proofs.CellLaws.{cell-on, cell-above, cell-below, cell-left, cell-right}
+use Rattle.kernel.specs.Sets.{plusOne, biased}
+use Rattle.kernel.proofs.CellLaws.{plateSpot, spot-on, spot-above, spot-below, spot-left, spot-right}
 
 -- a step as it stands, or negated
 unfoldable pub toward : Bool → Step → Step
@@ -76,35 +74,33 @@ step-place W H false s p dc dr l = rw (lt-ltb p (W * H) l, moved false (p % W) d
 
 -- ---- the place reached
 
-module _ (a : List ℕ) (start W H : ℕ) where
-  on-plate :
-      (c r : ℕ) → c < W → r < H →
-      landing (λ q. getD a (start + q) 0) (placeAt W H (pos c) (pos r)) ≡ cell a start W H (suc r) (suc c)
+module _ (f : ℕ → ℕ) (W H : ℕ) where
+  on-plate : (c r : ℕ) → c < W → r < H → landing f (placeAt W H (pos c) (pos r)) ≡ plateSpot f W H (suc r) (suc c)
   unfolding landing placeAt
   on-plate c r l m =
       rw (lt-ltb c W l, lt-ltb r H m)
       (sym
-      (cell-on a start W H (suc r) (suc c) (omega arith) (omega arith) (omega arith) (omega arith)
-      ∙ ap (λ (i : ℕ). getD a (start + i) 0)
+      (spot-on f W H (suc r) (suc c) (omega arith) (omega arith) (omega arith) (omega arith)
+      ∙ ap f
       (let e : (suc r - 1) * W + (suc c - 1) ≡ r * W + c = omega (arith, ap (λ (x : ℕ). x * W) (let e : suc r - 1 ≡ r = omega arith in e)) in e)))
 
-  landing-cell : (Y X : ℕ) → landing (λ q. getD a (start + q) 0) (placeAt W H (less X) (less Y)) ≡ cell a start W H Y X
+  landing-spot : (Y X : ℕ) → landing f (placeAt W H (less X) (less Y)) ≡ plateSpot f W H Y X
   unfolding landing placeAt less
-  landing-cell zero zero = sym (cell-above a start W H 0 0 (omega arith))
-  landing-cell zero (suc c) = sym (cell-above a start W H 0 (suc c) (omega arith))
-  landing-cell (suc r) zero = sym (cell-left a start W H (suc r) 0 (omega arith))
-  landing-cell (suc r) (suc c) =
+  landing-spot zero zero = sym (spot-above f W H 0 0 (omega arith))
+  landing-spot zero (suc c) = sym (spot-above f W H 0 (suc c) (omega arith))
+  landing-spot (suc r) zero = sym (spot-left f W H (suc r) 0 (omega arith))
+  landing-spot (suc r) (suc c) =
       elim (le-or-lt W c) [
-        | inl l ↦ rw (le-ltb c W l) (sym (cell-right a start W H (suc r) (suc c) (omega arith)))
+        | inl l ↦ rw (le-ltb c W l) (sym (spot-right f W H (suc r) (suc c) (omega arith)))
         | inr l ↦ elim (le-or-lt H r) [
-          | inl m ↦ rw (lt-ltb c W l, le-ltb r H m) (sym (cell-below a start W H (suc r) (suc c) (omega arith)))
+          | inl m ↦ rw (lt-ltb c W l, le-ltb r H m) (sym (spot-below f W H (suc r) (suc c) (omega arith)))
           | inr m ↦ on-plate c r l m
         ]
       ]
 
   -- what a step leads to
-  pub step-cell :
+  pub step-spot :
       (back : Bool) (s : Step) (p : ℕ) → Small (s .column) → Small (s .row) → p < W * H →
-      landing (λ q. getD a (start + q) 0) (stepFrom W H p (toward back s)) ≡ cell a start W H (p / W + biased back (s .row)) (p % W + biased back (s .column))
-  step-cell back s p dc dr l =
-      rw (step-place W H back s p dc dr l) (landing-cell (p / W + biased back (s .row)) (p % W + biased back (s .column)))
+      landing f (stepFrom W H p (toward back s)) ≡ plateSpot f W H (p / W + biased back (s .row)) (p % W + biased back (s .column))
+  step-spot back s p dc dr l =
+      rw (step-place W H back s p dc dr l) (landing-spot (p / W + biased back (s .row)) (p % W + biased back (s .column)))

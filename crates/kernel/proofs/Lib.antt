@@ -7,5 +7,6 @@ pub mod PlaneLaws
 pub mod HeldLaws
 pub mod RowLaws
 pub mod Progress
+pub mod LineLaws
 pub mod Landing
 pub mod Bridge

@@ -1,7 +1,7 @@
 -- The step of a whole set, row by row. Before row r the rows above it are done, the set from row r on is old, and rows r − 1 and r of the old set
 -- are held; the third slot holds an earlier row, over which row r + 1 comes. In place: what is held was read before row r is written.
 use Prim.Native.Nat.{ℕ, suc, _+_, _-_, _*_, _≤_, _<_}
-use mathlib.Core.Path.{_≡_, refl, sym, _∙_, subst}
+use mathlib.Core.Path.{_≡_, sym, _∙_, subst}
 use mathlib.Core.Logic.{inl, inr}
 use mathlib.Core.Bool.{Bool}
 use mathlib.Core.List.{List}
@@ -12,10 +12,10 @@ use lib.ListN.{length, getD, replicate}
 use Rattle.basics.proofs.Numbers.{le-or-lt, rows-fit}
 use Rattle.plate.specs.Opening.{levelAt}
 use Rattle.kernel.specs.Sets.{keyBy, renewed, InBand, Advanced}
-use Rattle.kernel.specs.Rows.{Reaches, Turned, Turned.straight, Slotted, layerRow, Holds, ThreeHeld, renewedBy, RowRenewed}
+use Rattle.kernel.specs.Rows.{Reaches, Turned, Turned.straight, Apart, Slotted, layerRow, Holds, ThreeHeld, renewedBy, RowRenewed}
 use Rattle.kernel.specs.declared.steps.Reach.{Reach}
 use Rattle.kernel.specs.declared.rows.Slots.{Slots}
-use Rattle.kernel.proofs.HeldLaws.{Apart, slots-apart, turned-on, Rest, others-held, row-comes, zeros-hold}
+use Rattle.kernel.proofs.HeldLaws.{slots-apart, turned-on, Rest, rest-all, others-held, row-comes, made-zeros, zeros-hold}
 use Rattle.kernel.proofs.RowLaws.{ahead-by}
 
 -- the rows of new above row upto are what a step makes of old
@@ -38,9 +38,6 @@ pub rows-none : (old : List ℕ) (plate : List ℤ) (mode w h planes index : ℕ
 rows-none old plate mode w h planes index back lo hi =
     record { inside = λ j r c p l t i. absurd (omega arith); outside = λ j r c p l t o. absurd (omega arith) }
 
-pub rest-all : (old : List ℕ) (n from : ℕ) → Rest old old n from
-rest-all old n from = record { same = λ j i l m. refl }
-
 pub window-start :
     (n : ℕ) (old new : List ℕ) (w h planes : ℕ) (slots : Slots) →
     w ≤ 1024 →
@@ -51,12 +48,12 @@ window-start n old new w h planes slots l e s =
     subst (λ (x : Slots). Window old new w h planes x 0) (sym e)
     (record {
       turned = straight;
-      above = others-held old old (replicate n 0) new w h planes 0 (w + 2) s 0 0 (omega arith) (inl (omega arith)) (zeros-hold old n w h planes 0);
+      above = others-held old old (replicate n 0) new w h planes 0 (w + 2) s 0 0 (omega arith) (inl (omega arith)) (zeros-hold old (replicate n 0) w h planes 0 (made-zeros n));
       here =
-          row-comes old old (replicate n 0) new w h planes 0 (w + 2) s 0 (omega arith) (rest-all old (h * w) (0 * w)) (zeros-hold old n w h planes (w + 2));
+          row-comes old old (replicate n 0) new w h planes 0 (w + 2) s 0 (omega arith) (rest-all old (h * w) (0 * w)) (zeros-hold old (replicate n 0) w h planes (w + 2) (made-zeros n));
       below =
           others-held old old (replicate n 0) new w h planes 0 (w + 2) s (w + 2 + (w + 2)) 0 (omega arith) (inr (omega arith))
-          (zeros-hold old n w h planes (w + 2 + (w + 2)));
+          (zeros-hold old (replicate n 0) w h planes (w + 2 + (w + 2)) (made-zeros n));
     })
 
 -- ---- one row: row r + 1 comes in, and row r of the set is renewed

@@ -105,6 +105,27 @@ pub striped-ends :
     Striped f old new n first past lo hi → past ≡ last → Striped f old new n first last lo hi
 striped-ends f old new n first past last lo hi s e = subst (λ (m : ℕ). Striped f old new n first m lo hi) e s
 
+-- the stretches from first below mid, and then those from mid on
+pub striped-join :
+    (f : ℕ → ℕ → ℕ) (old part new : List ℕ) (n first mid past lo hi : ℕ) →
+    Striped f old part n first mid lo hi →
+    Striped f part new n mid past lo hi →
+    first ≤ mid →
+    hi ≤ n →
+    Striped f old new n first past lo hi
+striped-join f old part new n first mid past lo hi s t o fits =
+    record {
+      inside = λ j i a b p q.
+          elim (le-or-lt mid j) [
+            | inl k ↦ t .inside j i k b p q
+            | inr k ↦ t .before j i k (omega arith) ∙ s .inside j i a k p q
+          ];
+      under = λ j i l. t .under j i l ∙ s .under j i l;
+      over = λ j i l m. t .over j i l m ∙ s .over j i l m;
+      before = λ j i l m. t .before j i (omega arith) m ∙ s .before j i l m;
+      len = t .len ∙ s .len;
+    }
+
 -- the same numbers by another rule
 pub striped-by :
     (f g : ℕ → ℕ → ℕ) (old new : List ℕ) (n first past lo hi : ℕ) →

@@ -1,3 +1,4 @@
 pub mod Runs
 pub mod Sets
 pub mod Rows
+pub mod Lines

@@ -1,11 +1,13 @@
 -- The held rows, and what is done to one row of a plane set. These definitions serve contracts inside this crate only.
 use Prim.Native.Nat.{ℕ, zero, suc, _+_, _-_, _*_, _≤_, _<_, min, max}
 use mathlib.Core.Path.{_≡_}
+use mathlib.Core.Logic.{_⊎_}
 use mathlib.Core.Bool.{Bool}
 use mathlib.Core.List.{List}
 use lib.ListN.{length, getD}
 use lib.IntN.{ℤ}
 use Rattle.plate.specs.Opening.{levelAt}
+use Rattle.theory.proofs.LevelSets.{alone}
 use Rattle.kernel.specs.Runs.{Striped, blockSize, blendAt}
 use Rattle.kernel.specs.Sets.{keyBy, across, down, layer, InBand}
 use Rattle.kernel.specs.declared.steps.Reach.{Reach}
@@ -43,6 +45,15 @@ pub data Turned (s : ℕ) : ℕ → ℕ → ℕ → Type 0 where
   straight : Turned s 0 s (s + s)
   once : Turned s s (s + s) 0
   twice : Turned s (s + s) 0 s
+
+-- three slots of s numbers lie in a block, none over another
+pub record Apart (s a b c : ℕ) : Type 0 where
+  pub above-fits : a + s ≤ blockSize
+  pub here-fits : b + s ≤ blockSize
+  pub below-fits : c + s ≤ blockSize
+  pub above-apart : (a + s ≤ c) ⊎ (c + s ≤ a)
+  pub here-apart : (b + s ≤ c) ⊎ (c + s ≤ b)
+  pub upper-apart : (a + s ≤ b) ⊎ (b + s ≤ a)
 
 -- ---- the band
 
@@ -87,6 +98,14 @@ layerRow set w h row slot b i = layer set w h b (row + 1) (i - slot)
 abbrev pub blendRow : List ℕ → List ℕ → ℕ → ℕ → ℕ → ℕ → ℕ → ℕ → ℕ
 blendRow key held o0 o1 o2 base j i = blendAt key held (j * blockSize) o0 o1 o2 (i - base)
 
+-- the number of the walks of no steps at the place i of plane j, in the row that begins at `base`
+abbrev pub aloneRow : List ℕ → ℕ → ℕ → ℕ → ℕ
+aloneRow key base j i = alone (getD key (i - base) 0) j
+
+-- a list of zeros
+pub record Zeros (xs : List ℕ) : Type 0 where
+  pub none : (i : ℕ) → getD xs i 0 ≡ 0
+
 -- in every block, the slot that begins at `at` holds row Y − 1 of the block's layer, with a 0 before and after
 pub record Holds (old held : List ℕ) (w h planes at Y : ℕ) : Type 0 where
   pub is : (b X : ℕ) → b ≤ planes → X ≤ w + 1 → getD held (b * blockSize + (at + X)) 0 ≡ layer old w h b Y X
@@ -117,3 +136,12 @@ pub record RowRenewed (set new held : List ℕ) (plate : List ℤ) (mode w h n p
   pub under : (j i : ℕ) → i < base → getD new (j * n + i) 0 ≡ getD set (j * n + i) 0
   pub over : (j i : ℕ) → base + w ≤ i → i < n → getD new (j * n + i) 0 ≡ getD set (j * n + i) 0
   pub len : length new ≡ length set
+
+-- row q of each plane in a set of lines is renewed from the held rows, or begun where q is the row of the walks of no steps
+pub record LineRenewed (set new key held : List ℕ) (w n planes : ℕ) (reach : Reach) (slots : Slots) (q start base : ℕ) : Type 0 where
+  pub first : q ≡ start → (j c : ℕ) → j < planes → c < w → getD new (j * n + (base + c)) 0 ≡ alone (getD key c 0) j
+  pub later : (q ≡ start → ⊥) → (j c : ℕ) → j < planes → c < w →
+      getD new (j * n + (base + c)) 0
+      ≡ blendAt key held (j * blockSize) (slotOf slots (reach .y0) + reach .x0) (slotOf slots (reach .y1) + reach .x1) (slotOf slots (reach .y2) + reach .x2) c
+  pub under : (j i : ℕ) → i < base → getD new (j * n + i) 0 ≡ getD set (j * n + i) 0
+  pub over : (j i : ℕ) → base + w ≤ i → i < n → getD new (j * n + i) 0 ≡ getD set (j * n + i) 0

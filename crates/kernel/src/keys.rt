@@ -55,3 +55,14 @@ pub(crate) fn fill_row(
         fill_mirrored_keys(row, plate, start, from, to);
     }
 }
+
+// A level's key, or in another mode than 0 that of its mirror.
+pub fn key_by(mode: usize, v: i16) -> u16
+    ensures { λ r. ⌜ r ≡ keyBy mode v ⌝ }
+{
+    let key = plate::key_of(v);
+    if mode == 0 {
+        return key;
+    }
+    65535 - key
+}

@@ -15,6 +15,7 @@ ghost use Rattle.kernel.specs.Sets.{Advanced};
 
 mod band;
 mod keys;
+mod line;
 mod rows;
 mod runs;
 mod steps;
@@ -27,8 +28,13 @@ use crate::steps::reach_of;
 pub use band::Run;
 pub use band::run_in;
 pub use band::shift_of;
+pub use keys::key_by;
+pub use line::advance_line;
+pub use line::line_reach;
+pub use runs::fill_run;
 pub use runs::max2;
 pub use runs::min2;
+pub use steps::Reach;
 pub use steps::columns_on;
 pub use steps::rows_on;
 

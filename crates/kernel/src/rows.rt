@@ -7,8 +7,8 @@ use crate::band::run_in;
 use crate::keys::fill_row;
 use crate::runs::BLOCK;
 use crate::runs::blend_run;
-use crate::runs::clear_run;
 use crate::runs::copy_run;
+use crate::runs::fill_run;
 use crate::steps::Reach;
 
 // The held rows. Each plane has a block of three slots in `held`, for rows r - 1, r and r + 1 of the
@@ -24,7 +24,7 @@ pub(crate) struct Slots {
 }
 
 // The row of each plane that begins at `start` comes into a slot.
-fn hold_row(
+pub(crate) fn hold_row(
     held: &mut [u16],
     set: &[u16],
     n: usize,
@@ -56,7 +56,7 @@ fn hold_zeros(held: &mut [u16], planes: usize, slot: usize, w: usize)
     let mut j = 0;
     let mut at = BLOCK + (slot + 1);
     while j < planes {
-        clear_run(held, at, w);
+        fill_run(held, at, w, 0);
         j += 1;
         at += BLOCK;
     }
@@ -86,7 +86,7 @@ pub(crate) fn hold(
 }
 
 // The run of columns `from` below `to` of a row of each plane, from the held rows.
-fn renew_planes(
+pub(crate) fn renew_planes(
     set: &mut [u16],
     key: &[u16],
     held: &[u16],
@@ -116,7 +116,7 @@ fn renew_planes(
 }
 
 // Where a step that goes y - 1 rows and x - 1 columns on finds its number, for column 0.
-fn offset_of(slots: Slots, y: usize, x: usize) -> usize
+pub(crate) fn offset_of(slots: Slots, y: usize, x: usize) -> usize
     requires { ⌜ (slots .above + x < 4096) × (slots .here + x < 4096) × (slots .below + x < 4096) ⌝ }
     ensures { λ r. ⌜ r ≡ slotOf slots y + x ⌝ }
 {

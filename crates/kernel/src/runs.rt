@@ -33,14 +33,14 @@ pub(crate) fn copy_run(to: &mut [u16], at: usize, from: &[u16], start: usize, n:
     }
 }
 
-// to[at + c] = 0 for c below n.
-pub(crate) fn clear_run(to: &mut [u16], at: usize, n: usize)
+// to[at + c] = v for c below n.
+pub fn fill_run(to: &mut [u16], at: usize, n: usize, v: u16)
     requires { ⌜ at + n ≤ length (now to) ⌝ }
-    ensures { λ _. ⌜ Between (λ (k : ℕ). 0) (now (to .entry)) (now (to .exit)) at (at + n) ⌝ }
+    ensures { λ _. ⌜ Between (λ (k : ℕ). v) (now (to .entry)) (now (to .exit)) at (at + n) ⌝ }
 {
     let mut c = 0;
     while c < n {
-        to[at + c] = 0;
+        to[at + c] = v;
         c += 1;
     }
 }

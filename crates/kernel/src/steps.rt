@@ -4,13 +4,13 @@ ghost use Rattle.kernel.specs.Sets.{biased, across, down};
 ghost use Rattle.kernel.specs.Rows.{Reaches};
 
 // Where the three steps of a direction lead, in columns and rows plus one.
-pub(crate) struct Reach {
-    pub(crate) x0: usize,
-    pub(crate) y0: usize,
-    pub(crate) x1: usize,
-    pub(crate) y1: usize,
-    pub(crate) x2: usize,
-    pub(crate) y2: usize,
+pub struct Reach {
+    pub x0: usize,
+    pub y0: usize,
+    pub x1: usize,
+    pub y1: usize,
+    pub x2: usize,
+    pub y2: usize,
 }
 
 // A change by -1, 0 or 1, or its negation, plus one.

@@ -1,7 +1,7 @@
 -- The rank of a pixel in a direction: how many lines it stands from where the direction's longest paths start. Every step raises it by at least one,
 -- it stays below the span, and one step raises it by exactly one wherever it is not the highest. Shown in columns and
 -- rows, direction by direction, and then said of places.
-use Prim.Native.Nat.{ℕ, suc, _+_, _-_, _*_, _/_, _%_, _<_}
+use Prim.Native.Nat.{ℕ, suc, _+_, _-_, _*_, _/_, _%_, _^_, _<_}
 use mathlib.Core.Path.{_≡_, refl}
 use mathlib.Core.Bool.{cond}
 use mathlib.Core.List.{List, [], _∷_, map, List·Memᴰ, List·Memᴰ·head, List·Memᴰ·tail}
@@ -11,7 +11,7 @@ use native.Mathlib.Omega.{arith}
 use lib.Arith.{digits-div, digits-mod}
 use lib.Dec.{eqb}
 use lib.IntN.{pos, negsuc}
-use Rattle.basics.proofs.Numbers.{le-or-lt}
+use Rattle.basics.proofs.Numbers.{le-or-lt, below-four}
 use Rattle.basics.proofs.Lists.{one-of-three}
 use Rattle.plate.specs.Directions.{Step, Direction, table, stepsIn, steps}
 use Rattle.plate.specs.Paths.{next, span}
@@ -161,6 +161,13 @@ module _ (W H bit : ℕ) where
 -- the bits of the table's directions
 abbrev pub bits : List ℕ
 bits = map (λ (d : Direction). d .bit) table
+
+-- the bit of the direction at an index of the table
+pub bit-listed : (index : ℕ) → index < 4 → List·Memᴰ (2 ^ index) bits
+unfolding table
+bit-listed index h =
+    below-four (λ (i : ℕ). List·Memᴰ (2 ^ i) bits) (List·Memᴰ·head refl) (List·Memᴰ·tail (List·Memᴰ·head refl))
+    (List·Memᴰ·tail (List·Memᴰ·tail (List·Memᴰ·head refl))) (List·Memᴰ·tail (List·Memᴰ·tail (List·Memᴰ·tail (List·Memᴰ·head refl)))) index h
 
 -- every direction of the table has ranks
 pub ranked : (W H bit : ℕ) → List·Memᴰ bit bits → Ranked W H bit

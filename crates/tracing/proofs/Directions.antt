@@ -13,10 +13,9 @@ use Rattle.basics.proofs.Lists.{keep-find, keep-keep, one-of-three}
 use Rattle.plate.specs.Directions.{Direction, table, member, chosen}
 use Rattle.plate.specs.Paths.{crossed, span}
 use Rattle.plate.specs.declared.setting.Setting.{Setting}
-use Rattle.theory.proofs.Ranks.{bits}
+use Rattle.theory.proofs.Ranks.{bits, bit-listed}
 use Rattle.theory.proofs.Span.{Spans, chosen-bits, crossed-spans, spans-crossed}
 use Rattle.tracing.specs.Usable.{usable, FirstUsable}
-use Rattle.engine.proofs.Rooms.{bit-listed}
 
 -- ---- the bit of a direction
 

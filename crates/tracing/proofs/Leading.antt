@@ -30,7 +30,8 @@ use Rattle.kernel.specs.Sets.{keyBy}
 use Rattle.kernel.proofs.KeyLaws.{level-read}
 use Rattle.engine.specs.States.{Sound, Holds, bitOf as bitIn, keyOf, cells}
 use Rattle.engine.specs.declared.scan.Scan.{Scan}
-use Rattle.engine.proofs.Rooms.{bit-listed, pixels-is}
+use Rattle.engine.proofs.Rooms.{pixels-is}
+use Rattle.theory.proofs.Ranks.{bit-listed}
 
 -- the gaps that are left after a pixel
 module _ (next : ℕ → List ℕ) (g : ℕ → ℕ) (bounded : (p : ℕ) → g p ≤ 65535) (t : ℕ) where

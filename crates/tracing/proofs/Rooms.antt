@@ -5,10 +5,9 @@ use mathlib.Core.Bool.{Bool, true, false}
 use native.Mathlib.Omega.{arith}
 use Rattle.basics.proofs.Numbers.{below-four}
 use Rattle.plate.specs.Paths.{span}
-use Rattle.theory.proofs.Ranks.{rankAt, rank, ranked}
+use Rattle.theory.proofs.Ranks.{rankAt, rank, ranked, bit-listed}
 use Rattle.theory.proofs.Sides.{room}
 use Rattle.kernel.specs.Rows.{shift}
-use Rattle.engine.proofs.Rooms.{bit-listed}
 
 pub span-small : (W H index : ℕ) → index < 4 → W ≤ 1024 → H ≤ 1024 → span W H (2 ^ index) ≤ 2048
 unfolding span

@@ -12,7 +12,7 @@ use lib.ListN.{getD}
 use Rattle.basics.proofs.Numbers.{le-or-lt}
 use Rattle.plate.specs.Paths.{next, span}
 use Rattle.theory.proofs.Reversal.{back}
-use Rattle.theory.proofs.Ranks.{rank}
+use Rattle.theory.proofs.Ranks.{rank, bit-listed}
 use Rattle.theory.proofs.LevelSets.{reach, reach-none}
 use Rattle.theory.proofs.Sides.{around, room, Side, side}
 use Rattle.theory.proofs.Terms.{term}
@@ -20,7 +20,6 @@ use Rattle.tracing.specs.Following.{Leads}
 use Rattle.tracing.specs.Finding.{Noted, sharedAt, termAt, Possible, FromNotes, RowSearched, Searched, Attained, FoundIn}
 use Rattle.tracing.specs.declared.find.Found.{Found}
 use Rattle.tracing.specs.declared.find.Notes.{Notes}
-use Rattle.engine.proofs.Rooms.{bit-listed}
 use Rattle.tracing.proofs.Rooms.{rank-below}
 
 -- ---- one row

@@ -23,7 +23,7 @@ use Rattle.plate.proofs.Sizes.{GoodSize, good-size}
 use Rattle.plate.proofs.Verdicts.{Clear, clear-accepted}
 use Rattle.theory.specs.Trace.{Shows}
 use Rattle.theory.proofs.Listed.{mem-through, walk-listed, walk-started, walk-stays}
-use Rattle.theory.proofs.Ranks.{rank}
+use Rattle.theory.proofs.Ranks.{rank, bit-listed}
 use Rattle.theory.proofs.Span.{chosen-bits}
 use Rattle.theory.proofs.LevelSets.{reach, reach-none, low-pixels-same}
 use Rattle.theory.proofs.Sides.{around, side}
@@ -34,7 +34,6 @@ use Rattle.theory.proofs.Decomposition.{keyAt, value, opened-value, low-admitte
 use Rattle.theory.proofs.Terms.{term, value-term, value-least, value-same}
 use Rattle.theory.proofs.Trace.{shows}
 use Rattle.engine.specs.Finishing.{Accepted}
-use Rattle.engine.proofs.Rooms.{bit-listed}
 use Rattle.tracing.specs.Finding.{Attained, BestOf, keysBy}
 use Rattle.tracing.specs.Drawing.{Drawn}
 use Rattle.tracing.specs.declared.find.Found.{Found}

@@ -131,7 +131,7 @@ fn find_in(work: &mut [u16], plate: &[i16], scan: Scan, x: usize, found: Found) 
         steps: scan.steps,
         gaps: scan.gaps,
     };
-    let own = engine::key_by(scan.mode, plate[x]);
+    let own = kernel::key_by(scan.mode, plate[x]);
     let rank = rank_of(heading, x);
     note_side(work, plate, scan, false, x, size + size);
     note_side(work, plate, scan, true, x, size);

@@ -60,7 +60,7 @@ fn go_on(
         backwards: backwards,
     };
     let p = from.place;
-    let left = gaps_after(engine::key_by(scan.mode, plate[p]), t, from.gaps);
+    let left = gaps_after(kernel::key_by(scan.mode, plate[p]), t, from.gaps);
     let place = choose(work, left * scan.pixels, heading, p, m, t);
     Stand {
         place: place,

@@ -8,8 +8,8 @@ use borrow.Author.Needs.{needs}
 use lib.ListN.{length}
 use Rattle.kernel.specs.Rows.{Sized}
 use Rattle.basics.proofs.Numbers.{rows-fit}
-use Rattle.kernel.proofs.HeldLaws.{Rest, slots-apart}
-use Rattle.kernel.proofs.Progress.{Rows, Window, rows-none, rest-all, window-start, window-more, rest-more, rows-more, rows-all}
+use Rattle.kernel.proofs.HeldLaws.{Rest, rest-all, slots-apart}
+use Rattle.kernel.proofs.Progress.{Rows, Window, rows-none, window-start, window-more, rest-more, rows-more, rows-all}
 use Rattle.kernel.proofs.advance.Statement.{statement}
 use Rattle.kernel.proofs.advance.Tie as tie
 

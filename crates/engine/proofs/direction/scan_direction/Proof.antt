@@ -8,7 +8,8 @@ use native.Mathlib.Omega.{arith}
 use lib.ListN.{length}
 use lib.IntN.{ℤ}
 use Rattle.engine.specs.States.{Holds, Checkpoints, cells, endsAt}
-use Rattle.engine.specs.Gathering.{Raised, termsAt}
+use Rattle.lines.specs.Gathering.{Raised}
+use Rattle.engine.specs.Gathering.{termsAt}
 use Rattle.engine.proofs.CheckpointLaws.{nothing-held, checkpoints-before}
 use Rattle.engine.proofs.DirectionLaws.{visited, first-visited, more-visited, all-visited}
 use Rattle.engine.proofs.direction.scan_direction.Statement.{statement}

@@ -8,7 +8,8 @@ use native.Mathlib.Omega.{arith}
 use lib.ListN.{length}
 use lib.IntN.{ℤ}
 use Rattle.engine.specs.States.{Holds, cells, endsAt}
-use Rattle.engine.specs.Gathering.{Raised, termsAt}
+use Rattle.lines.specs.Gathering.{Raised}
+use Rattle.engine.specs.Gathering.{termsAt}
 use Rattle.engine.proofs.RaiseLaws.{raised-none, raised-ends}
 use Rattle.engine.proofs.GatherLaws.{row-fits, gathered-row}
 use Rattle.engine.proofs.gather.gather.Statement.{statement}

@@ -2,9 +2,9 @@
 use Prim.Native.Nat.{ℕ, _+_, _-_, _≤_, min}
 use native.Mathlib.Omega.{arith}
 use lib.ListN.{getD}
-use Rattle.engine.specs.Gathering.{Raised}
+use Rattle.lines.specs.Gathering.{Raised}
 use Rattle.engine.proofs.RaiseLaws.{raised-none, raised-more, raised-ends}
-use Rattle.engine.proofs.GatherLaws.{raised-level}
+use Rattle.lines.proofs.RisenLaws.{raised-level}
 use Rattle.engine.proofs.gather.gather_run.Statement.{statement}
 use Rattle.engine.proofs.gather.gather_run.Tie as tie
 

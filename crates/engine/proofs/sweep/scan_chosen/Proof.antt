@@ -3,7 +3,7 @@ use Prim.Native.Nat.{_-_, _*_, _^_, _≤_, _<_}
 use mathlib.Core.Path.{_≡_, refl, _∙_}
 use native.Mathlib.Omega.{arith}
 use lib.ListN.{length}
-use Rattle.engine.specs.Gathering.{Raised}
+use Rattle.lines.specs.Gathering.{Raised}
 use Rattle.engine.proofs.SweepLaws.{bestBefore, before-none, before-more, before-all, bit-doubled, bit-below, accepted-still}
 use Rattle.engine.proofs.sweep.scan_chosen.Statement.{statement}
 use Rattle.engine.proofs.sweep.scan_chosen.Tie as tie

@@ -23,8 +23,8 @@ returns-2 c =
 scan-of-requires : tie.Need-scan-of-requires
 scan-of-requires c κs = search needs
 
-scan-direction-requires : tie.Need-scan-direction-requires
-scan-direction-requires c κs =
+open-direction-requires : tie.Need-open-direction-requires
+open-direction-requires c κs =
     let s = c .before .before .before .before .before .before .before .before .before in
     let a = s .args in
     let r = c .before .before .scan-of in
@@ -48,8 +48,8 @@ returns-3 c =
     let s = c .before .before .before .before .before .before .before .before .before .before .before .before .before in
     let a = s .args in
     let r = c .before .before .before .before .before .before .scan-of in
-    scan-chosen-best (r .result) (a .width) (a .height) (a .setting) (a .index) (r .ensures .0) (r .ensures .1) (a .plate .now) (a .result .now) (c .before .before .before .scan-direction .last .0)
-    (member-chosen (a .width) (a .height) (a .setting) (a .plate .now) (a .index) (a .bit) (s .pre .1 .1) (c .before .before .before .before .before .before .before .before .before .before .if1 .left)) (c .before .before .before .scan-direction .ensures)
+    scan-chosen-best (r .result) (a .width) (a .height) (a .setting) (a .index) (r .ensures .0) (r .ensures .1) (a .plate .now) (a .result .now) (c .before .before .before .open-direction .last .0)
+    (member-chosen (a .width) (a .height) (a .setting) (a .plate .now) (a .index) (a .bit) (s .pre .1 .1) (c .before .before .before .before .before .before .before .before .before .before .if1 .left)) (c .before .before .before .open-direction .ensures)
 
 pub scan-if-chosen-spec : {M : Type 1} → statement M
 scan-if-chosen-spec =
@@ -60,7 +60,7 @@ scan-if-chosen-spec =
     span-of-requires
     returns-2
     scan-of-requires
-    scan-direction-requires
+    open-direction-requires
     same-length
     same-length-2
     returns-3)

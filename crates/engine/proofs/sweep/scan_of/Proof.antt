@@ -38,7 +38,7 @@ returns c =
     let a = s .args in
     let q = c .before .before .stride in (
       scan-sound (a .setting .mode) (a .width) (a .height) (a .setting .gaps) (a .index) (a .setting .length) (a .longest) (c .before .before .before .steps-of .result) (q .result)
-          (s .pre .0 .0) (s .pre .0 .1) (s .pre .0 .2) (s .pre .0 .3) (s .pre .1 .0 .1) (s .pre .1 .0 .2) (s .pre .1 .0 .0) (s .pre .1 .1 .2) (s .pre .1 .1 .1) (s .pre .1 .1 .0) (c .before .before .before .steps-of .ensures) (q .ensures .0),
+          (s .pre .0 .0) (s .pre .0 .1) (s .pre .0 .2) (s .pre .0 .3) (s .pre .0 .4) (s .pre .1 .0 .1) (s .pre .1 .0 .2) (s .pre .1 .0 .0) (s .pre .1 .1 .2) (s .pre .1 .1 .1) (s .pre .1 .1 .0) (c .before .before .before .steps-of .ensures) (q .ensures .0),
       record { is-mode = refl; is-width = refl; is-height = refl; is-gaps = refl; is-index = refl; is-steps = c .before .before .before .steps-of .ensures },
     )
 

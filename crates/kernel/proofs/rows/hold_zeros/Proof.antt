@@ -27,8 +27,8 @@ add-at-2 c = omega arith
 loop-holds : tie.Need-loop-holds Inv-loop μ-loop
 loop-holds c = (omega arith, omega arith, striped-none _ _ _ _ _ _ _ (omega arith))
 
-clear-run-requires : tie.Need-clear-run-requires Inv-loop μ-loop
-clear-run-requires c κs = omega arith
+fill-run-requires : tie.Need-fill-run-requires Inv-loop μ-loop
+fill-run-requires c κs = omega arith
 
 add-j : tie.Need-add-j Inv-loop μ-loop
 add-j c = omega arith
@@ -45,7 +45,7 @@ loop-again c =
     let l = c .before .before .before .before .before .loop in (
       omega arith,
       omega arith,
-      cleared-more _ _ _ _ _ _ _ (s .pre .1) (l .inv .1) (l .inv .2) (c .before .before .clear-run .ensures),
+      cleared-more _ _ _ _ _ _ _ (s .pre .1) (l .inv .1) (l .inv .2) (c .before .before .fill-run .ensures),
     )
 
 same-length : tie.Need-same-length Inv-loop μ-loop
@@ -63,7 +63,7 @@ hold-zeros-spec =
     add-at
     add-at-2
     loop-holds
-    clear-run-requires
+    fill-run-requires
     add-j
     add-at-3
     loop-less

@@ -4,9 +4,9 @@ use mathlib.Core.Path.{ap, _∙_}
 use borrow.Author.Needs.{needs}
 use Rattle.basics.proofs.Integers.{read-back}
 use Rattle.plate.specs.Levels.{key}
 use Rattle.kernel.proofs.KeyLaws.{key-plain, key-mirrored}
-use Rattle.engine.proofs.sets.key_by.Statement.{statement}
-use Rattle.engine.proofs.sets.key_by.Tie as tie
+use Rattle.kernel.proofs.keys.key_by.Statement.{statement}
+use Rattle.kernel.proofs.keys.key_by.Tie as tie
 
 key-of-requires : tie.Need-key-of-requires
 key-of-requires c κs = search needs

@@ -1,17 +1,17 @@
--- `clear_run` meets its contract: the run of zeros grows by one place a turn.
+-- `fill_run` meets its contract: the run grows by one place a turn.
 use Prim.Native.Nat.{ℕ, _+_, _-_, _≤_}
 use mathlib.Core.Path.{refl}
 use native.Mathlib.Omega.{arith}
 use Rattle.kernel.specs.Runs.{Between}
 use Rattle.kernel.proofs.RunLaws.{between-none, between-more, between-ends}
-use Rattle.kernel.proofs.runs.clear_run.Statement.{statement}
-use Rattle.kernel.proofs.runs.clear_run.Tie as tie
+use Rattle.kernel.proofs.runs.fill_run.Statement.{statement}
+use Rattle.kernel.proofs.runs.fill_run.Tie as tie
 
 abbrev Inv-loop : tie.InvT-loop
-Inv-loop to₀ at n c₀ to c = (c ≤ n) × Between (λ (k : ℕ). 0) to₀ to at (at + c)
+Inv-loop to₀ at n v c₀ to c = (c ≤ n) × Between (λ (k : ℕ). v) to₀ to at (at + c)
 
 abbrev μ-loop : tie.MeasureT-loop
-μ-loop to₀ at n c₀ to c = n - c
+μ-loop to₀ at n v c₀ to c = n - c
 
 loop-holds : tie.Need-loop-holds Inv-loop μ-loop
 loop-holds c = (omega arith, between-none _ _ _ _ (omega arith))
@@ -40,8 +40,8 @@ same-length c = omega arith
 returns : tie.Need-returns Inv-loop μ-loop
 returns c = between-ends _ _ _ _ _ _ (c .before .loop .inv .1) (omega arith)
 
-pub clear-run-spec : {M : Type 1} → statement M
-clear-run-spec =
+pub fill-run-spec : {M : Type 1} → statement M
+fill-run-spec =
     tie.close
     (tie.spec
     Inv-loop
