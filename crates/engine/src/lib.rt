@@ -10,8 +10,8 @@
 // (gather.rt), one direction after the other (direction.rt, sweep.rt), and in the end held below each
 // pixel's own level (finish.rt).
 //
-// A call takes time by the sizes and the setting alone, and about 70 KB of stack, nearly all of it the
-// held rows of the kernel. There is no recursion.
+// A call takes time by the sizes and the setting alone, and about 76 KB of stack, 140 KB where plane sets
+// are needed, nearly all of it the held rows of the kernel. There is no recursion.
 ghost use mathlib.Core.Path.{_≡_};
 ghost use lib.ListN.{length};
 ghost use Rattle.plate.specs.Opening.{filtered};
