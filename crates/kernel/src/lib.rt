@@ -1,4 +1,5 @@
-// One step of a plane set, in place: the loop in which the engine spends its time.
+// One step of a plane set, and one line of a sweep (line.rt), in place: the loops in which the engine
+// spends its time. Here the first of the two.
 //
 // A plane set holds, for j = 0..=gaps, a plane of w * h numbers. A step takes each plane one pixel
 // further along a direction (formula (4) of source 001, taken on grey levels):

@@ -8,9 +8,9 @@
 // states, of which as many are kept as the work buffer has room for (stack.rt). On each line both states
 // are joined (gather.rt, direction.rt).
 //
-// A state takes a line's share of a plane set, or less: so there is room for many, and where that is so
-// each line is made about twice, not once for every step of a path. The crate is internal to the
-// engine, whose calls meet each `requires`.
+// A state is as many rows as a path has pixels, or fewer: the shorter the path, or the closer its length
+// to the span, the more states find room. With some twenty of them the walks that go on are made about
+// twice for each line. The crate is internal to the engine, whose calls meet each `requires`.
 mod direction;
 mod frame;
 mod gather;
