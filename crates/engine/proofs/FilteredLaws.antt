@@ -12,36 +12,25 @@ use lib.IntN.{ℤ}
 use lib.Signed.{mag}
 use Rattle.basics.proofs.Tests.{true-or-false}
 use Rattle.basics.proofs.Lists.{map-at}
-use Rattle.plate.specs.Levels.{lowest, level, key, mirror}
+use Rattle.plate.specs.Levels.{lowest, level, key}
 use Rattle.plate.specs.Directions.{chosen}
 use Rattle.plate.specs.Opening.{levelAt, openedAt, filtered}
 use Rattle.plate.specs.declared.setting.Setting.{Setting}
-use Rattle.plate.proofs.Keys.{key-level, level-key, key-bound, mirror-level}
 use Rattle.theory.proofs.Decomposition.{keyAt, value, opened-value}
 use Rattle.theory.proofs.Terms.{value-same}
 use Rattle.theory.proofs.Opening.{Levels, levels-within}
 use Rattle.theory.proofs.Mirror.{turned, turned-levels, filtered-length, levelAt-filtered}
-use Rattle.kernel.specs.Sets.{keyBy}
-use Rattle.lines.specs.Gathering.{Raised}
-use Rattle.engine.specs.Gathering.{Blank}
-use Rattle.engine.specs.Finishing.{bestOfAll, levelBy, Finished}
+use Rattle.frames.specs.Keys.{keyBy, levelBy}
+use Rattle.engine.specs.Finishing.{bestOfAll, Blank, Gathered, Finished}
 
--- the mirror's key, and the key by the mode as the key of a turned level
-mirror-key : (v : ℤ) → mag v < 32768 → key (mirror v) ≡ 65535 - key v
-mirror-key v h =
-    ap (λ (u : ℤ). key (mirror u)) (sym (level-key v h)) ∙ ap key (mirror-level (key v) (key-bound v h)) ∙ key-level (65535 - key v)
-
-turned-key : (s : Setting) (v : ℤ) → mag v < 32768 → key (turned s v) ≡ keyBy (s .mode) v
+-- the key by the mode is the key of a turned level, and the level by the mode a turned level
+turned-key : (s : Setting) (v : ℤ) → key (turned s v) ≡ keyBy (s .mode) v
 unfolding turned keyBy
-turned-key s v h = ⊎-elim (λ e. rw e) (λ e. rw e (mirror-key v h)) (true-or-false (eqb (s .mode) 0))
+turned-key s v = ⊎-elim (λ e. rw e) (λ e. rw e) (true-or-false (eqb (s .mode) 0))
 
-turned-level : (s : Setting) (k : ℕ) → k ≤ 65535 → turned s (level k) ≡ levelBy (s .mode) k
+turned-level : (s : Setting) (k : ℕ) → turned s (level k) ≡ levelBy (s .mode) k
 unfolding turned levelBy
-turned-level s k h = ⊎-elim (λ e. rw e) (λ e. rw e (mirror-level k h)) (true-or-false (eqb (s .mode) 0))
-
-keyBy-bound : (mode : ℕ) (v : ℤ) → mag v < 32768 → keyBy mode v ≤ 65535
-unfolding keyBy
-keyBy-bound mode v h = ⊎-elim (λ e. rw e (key-bound v h)) (λ e. rw e (omega arith)) (true-or-false (eqb mode 0))
+turned-level s k = ⊎-elim (λ e. rw e) (λ e. rw e) (true-or-false (eqb (s .mode) 0))
 
 module _ (s : Setting) (W H : ℕ) (plate : List ℤ) (sized : length plate ≡ W * H) (small : (x : ℕ) → x < length plate → mag (levelAt plate x) < 32768) where
   levels : Levels plate
@@ -59,29 +48,25 @@ module _ (s : Setting) (W H : ℕ) (plate : List ℤ) (sized : length plate ≡ 
 
   same-keys : (p : ℕ) → p < W * H → keyAt turnedPlate p ≡ g p
   same-keys p on =
-      ap key (map-at (turned s) plate p lowest lowest (omega arith)) ∙ turned-key s (levelAt plate p) (small p (omega arith))
+      ap key (map-at (turned s) plate p lowest lowest (omega arith)) ∙ turned-key s (levelAt plate p)
 
   opened-key : (x : ℕ) → x < W * H → 1 ≤ s .length → openedAt s W H turnedPlate x ≡ level (valueAt x)
   opened-key x on long =
       opened-value turnedPlate (turned-levels s plate levels .size) s W H (s .length - 1) x on (let e : s .length ≡ suc (s .length - 1) = omega arith in e)
       ∙ ap level (value-same W H (chosen (s .directions)) (s .length - 1) (s .gaps) x on (keyAt turnedPlate) g same-keys)
 
-  value-bound : (x : ℕ) → x < W * H → valueAt x ≤ 65535
-  unfolding value
-  value-bound x on = omega (arith, keyBy-bound (s .mode) (levelAt plate x) (small x (omega arith)))
-
   filtered-level : (x : ℕ) → x < W * H → 1 ≤ s .length → levelAt (filtered s W H plate) x ≡ levelBy (s .mode) (valueAt x)
   filtered-level x on long =
-      levelAt-filtered s W H plate x on ∙ ap (turned s) (opened-key x on long) ∙ turned-level s (valueAt x) (value-bound x on)
+      levelAt-filtered s W H plate x on ∙ ap (turned s) (opened-key x on long) ∙ turned-level s (valueAt x)
 
   value-gathered : (x : ℕ) → valueAt x ≡ min (g x) (bestOfAll W H s plate x)
   unfolding value bestOfAll
   value-gathered x = refl
 
 module _ (s : Setting) (W H : ℕ) (plate old none all new : List ℤ) (sized : length plate ≡ W * H) (room : length old ≡ W * H) (long : 1 ≤ s .length)
-    (blank : Blank old none) (raised : Raised (bestOfAll W H s plate) none all 0 (W * H)) (finished : Finished (s .mode) plate all new) where
-  gathered : (x : ℕ) → x < W * H → keyAt all x ≡ bestOfAll W H s plate x
-  gathered x on = omega (arith, raised .inside x (omega arith) on, blank .lowest x)
+    (blank : Blank old none) (raised : Gathered (s .mode) plate (bestOfAll W H s plate) none all (W * H)) (finished : Finished (s .mode) plate all new) where
+  gathered : (x : ℕ) → x < W * H → min (keyBy (s .mode) (levelAt plate x)) (keyAt all x) ≡ min (keyBy (s .mode) (levelAt plate x)) (bestOfAll W H s plate x)
+  gathered x on = omega (arith, raised .is x on, blank .lowest x)
 
   level-is : (x : ℕ) → x < W * H → levelAt new x ≡ levelAt (filtered s W H plate) x
   level-is x on =

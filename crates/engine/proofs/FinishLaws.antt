@@ -18,8 +18,8 @@ use Rattle.basics.proofs.Lists.{any-default}
 use Rattle.plate.specs.Levels.{lowest, key}
 use Rattle.plate.specs.Opening.{levelAt}
 use Rattle.theory.proofs.Decomposition.{keyAt}
-use Rattle.kernel.specs.Sets.{keyBy}
-use Rattle.engine.specs.Finishing.{levelBy, Finished}
+use Rattle.frames.specs.Keys.{keyBy, levelBy}
+use Rattle.engine.specs.Finishing.{Finished}
 
 -- an element, as the code reads it from its bits
 pub read-level : (f : List ℤ) (x : ℕ) → mag (getD f x (pos 0)) < 32768 → x < length f → toZ w16 (ofZ w16 (getD f x (pos 0))) ≡ levelAt f x

@@ -1,12 +1,6 @@
-pub mod Rooms
-pub mod SetLaws
-pub mod WorkLaws
-pub mod CheckpointLaws
 pub mod RaiseLaws
-pub mod GatherLaws
-pub mod DirectionLaws
 pub mod SpanLaws
-pub mod FinishLaws
 pub mod SweepLaws
+pub mod FinishLaws
 pub mod FilteredLaws
 pub mod VerdictLaws

@@ -1,100 +1,42 @@
--- From the directions to the whole plate: the scan that is made of a direction, what a direction adds, and that all of them together with the pixel's
--- own key are the filtered plate.
+-- From the directions to the whole plate: what a direction adds, and what all of them do, or as many as it takes for every level to reach the pixel's
+-- own.
 use Prim.Native.Nat.{ℕ, suc, _+_, _-_, _*_, _/_, _%_, _^_, _≤_, _<_, max}
-use mathlib.Core.Path.{_≡_, refl, sym, _∙_}
+use mathlib.Core.Path.{_≡_, refl, ap, subst}
 use mathlib.Core.Bool.{Bool, true, cond}
 use mathlib.Core.List.{List, [], _∷_, _++_}
 use mathlib.Core.Logic.{⊎-elim}
-use native.Mathlib.Nat.{mul-le-mul, mul-pos, mul-comm, mul-assoc}
 use native.Mathlib.Numerals.{add-one}
 use native.Mathlib.Omega.{arith}
 use borrow.Author.Tests.{eq-eqb, ne-eqb}
-use lib.ListN.{take}
+use lib.ListN.{length, take}
 use lib.IntN.{ℤ}
 use Rattle.basics.specs.Lists.{keep}
-use Rattle.basics.proofs.Numbers.{below-four}
+use Rattle.basics.proofs.Numbers.{le-or-lt, below-four}
 use Rattle.basics.proofs.Tests.{true-or-false}
 use Rattle.plate.specs.Directions.{table, member, chosen}
 use Rattle.plate.specs.Paths.{span}
 use Rattle.plate.specs.Opening.{levelAt}
 use Rattle.plate.specs.declared.setting.Setting.{Setting}
+use Rattle.theory.proofs.Decomposition.{keyAt}
 use Rattle.theory.proofs.Listed.{walk-started}
 use Rattle.theory.proofs.Maxima.{best}
 use Rattle.theory.proofs.Ranks.{bits, ranked, bit-listed}
 use Rattle.theory.proofs.Span.{walk-fits}
 use Rattle.theory.proofs.Terms.{across-none}
-use Rattle.kernel.specs.Sets.{keyBy}
+use Rattle.frames.specs.Keys.{keyBy}
 use Rattle.theory.proofs.Sides.{around}
-use Rattle.engine.specs.States.{Sound, keyOf, endsAt}
-use Rattle.lines.specs.Gathering.{Raised}
-use Rattle.engine.specs.Gathering.{bestAt}
-use Rattle.engine.specs.Finishing.{Accepted, ScanOf, bestIn, bestIfChosen, bestOfAll}
-use Rattle.engine.specs.declared.scan.Scan.{Scan}
-use Rattle.engine.proofs.RaiseLaws.{raised-to-nothing, raised-ends, raised-twice, raised-by}
+use Rattle.directions.specs.Gathering.{Raised, bestOf}
+use Rattle.engine.specs.Finishing.{Accepted, Complete, Gathered, bestIn, bestIfChosen, bestOfAll}
+use Rattle.engine.proofs.RaiseLaws.{raised-to-nothing, raised-twice, raised-by}
 
--- ---- the scan of a direction
+-- ---- a direction that is opened
 
--- (gaps + 1) planes of at most 65,536 numbers
-pub planes-below : (k H W : ℕ) → k ≤ 8 → W * H ≤ 65536 → (k + 1) * (H * W) ≤ 589824
-planes-below k H W hk hn = mul-le-mul {n₁ = k + 1} {m₁ = H * W} {n₂ = 9} {m₂ = 65536} (omega arith) (omega (arith, mul-comm H W))
-
-abbrev pub scanBy : ℕ → ℕ → ℕ → ℕ → ℕ → ℕ → ℕ → ℕ → Scan
-scanBy mode W H k index steps spare q =
-    record {
-      mode = mode;
-      width = W;
-      height = H;
-      pixels = H * W;
-      gaps = k;
-      size = (k + 1) * (H * W);
-      index = index;
-      steps = steps;
-      spare = spare;
-      outer = q * q;
-      inner = q;
-    }
-
-pub scan-sound : (mode W H k index L longest steps q : ℕ) → 1 ≤ W → W ≤ 1024 → 1 ≤ H → H ≤ 1024 → W * H ≤ 65536 → k ≤ 8 → index < 4 → 1 ≤ L → L ≤ longest → longest ≤ 2047 →
-    longest ≡ span W H (2 ^ index) → steps ≡ L - 1 → 1 ≤ q → Sound (scanBy mode W H k index steps (longest - L) q)
-scan-sound mode W H k index L longest steps q a b c d n e f g h i s t p =
-    record {
-      wide = a;
-      narrow = b;
-      high = c;
-      low = d;
-      is-pixels = refl;
-      small = omega (arith, mul-comm H W);
-      few = e;
-      is-size = refl;
-      known = f;
-      long = sym s ∙ (let e : longest ≡ steps + (longest - L) + 1 = omega arith in e);
-      short = omega arith;
-      outer-stride = mul-pos p p;
-      inner-stride = p;
-    }
-
--- its sizes and the room that it takes in the work buffer
-module _ (r : Scan) (W H : ℕ) (s : Setting) (index : ℕ) (sound : Sound r) (of : ScanOf r W H s index) where
-  pub scan-pixels : r .pixels ≡ W * H
-  scan-pixels = sound .is-pixels ∙ rw (of .is-height, of .is-width) (mul-comm H W)
-
-  pub scan-room : (work : ℕ) → 4 * (s .gaps + 1) * (W * H) ≤ work → endsAt r + r .size ≤ work
-  scan-room work h =
-      let size : r .size ≡ (s .gaps + 1) * (W * H) = sound .is-size ∙ rw (of .is-gaps, scan-pixels) in
-      omega (arith, mul-assoc 4 (s .gaps + 1) (W * H))
-
-  -- the best walks of the scan are the best paths of the direction
-  scan-best : (plate : List ℤ) (x : ℕ) → bestAt r plate x ≡ bestIn W H s plate (2 ^ index) x
-  unfolding around keyOf
-  scan-best plate x = rw (of .is-mode, of .is-width, of .is-height, of .is-gaps, of .is-index, of .is-steps)
-
-  pub scan-chosen-best : (plate old new : List ℤ) → member (s .directions) (2 ^ index) ≡ true → Raised (bestAt r plate) old new 0 (r .pixels) →
-      Raised (bestIfChosen W H s plate (2 ^ index)) old new 0 (W * H)
-  unfolding bestIfChosen
-  scan-chosen-best plate old new e h =
-      raised-ends (bestIfChosen W H s plate (2 ^ index)) old new 0 (r .pixels) (W * H)
-      (raised-by (bestAt r plate) (bestIfChosen W H s plate (2 ^ index)) old new 0 (r .pixels) h (λ x a b. rw e (sym (scan-best plate x))))
-      scan-pixels
+pub chosen-best : (W H : ℕ) (s : Setting) (index : ℕ) (plate old new : List ℤ) → member (s .directions) (2 ^ index) ≡ true →
+    Raised (bestOf W H index (s .mode) (s .length - 1) (s .gaps) plate) old new 0 (W * H) →
+    Raised (bestIfChosen W H s plate (2 ^ index)) old new 0 (W * H)
+unfolding bestIfChosen bestOf around
+chosen-best W H s index plate old new e h =
+    raised-by (bestOf W H index (s .mode) (s .length - 1) (s .gaps) plate) (bestIfChosen W H s plate (2 ^ index)) old new 0 (W * H) h (λ x a b. rw e)
 
 -- ---- a direction that adds nothing
 
@@ -161,6 +103,41 @@ module _ (W H : ℕ) (s : Setting) (plate : List ℤ) where
   unfolding bestBefore bestOfAll chosen table
   before-all old new index e r =
       raised-by (bestBefore index) (bestOfAll W H s plate) old new 0 (W * H) r (λ x a b. rw e)
+
+  -- no direction takes anything away
+  before-grows : (index x : ℕ) → index ≤ 4 → bestBefore index x ≤ bestBefore 4 x
+  before-grows index x h =
+      let a : bestBefore 1 x ≡ max (bestIfChosen W H s plate (2 ^ 0) x) (bestBefore 0 x) = one-more 0 x (omega arith) in
+      let b : bestBefore 2 x ≡ max (bestIfChosen W H s plate (2 ^ 1) x) (bestBefore 1 x) = one-more 1 x (omega arith) in
+      let c : bestBefore 3 x ≡ max (bestIfChosen W H s plate (2 ^ 2) x) (bestBefore 2 x) = one-more 2 x (omega arith) in
+      let d : bestBefore 4 x ≡ max (bestIfChosen W H s plate (2 ^ 3) x) (bestBefore 3 x) = one-more 3 x (omega arith) in
+      ⊎-elim (λ e. let z : index ≡ 4 = omega arith in omega (arith, ap (λ (i : ℕ). bestBefore i x) z))
+      (λ l. below-four (λ (i : ℕ). bestBefore i x ≤ bestBefore 4 x) (omega arith) (omega arith) (omega arith) (omega arith) index l)
+      (le-or-lt 4 index)
+
+  all-is : (x : ℕ) → bestOfAll W H s plate x ≡ bestBefore 4 x
+  unfolding bestBefore bestOfAll chosen table
+  all-is x = refl
+
+  -- all directions; or some, after which every level has reached the pixel's own
+  pub gathered-all : (old new : List ℤ) (index : ℕ) → index ≡ 4 → Raised (bestBefore index) old new 0 (W * H) →
+      Gathered (s .mode) plate (bestOfAll W H s plate) old new (W * H)
+  gathered-all old new index e r =
+      record { is = λ x h. omega (arith, before-all old new index e r .inside x (omega arith) h); len = r .len }
+
+  pub gathered-early : (old new : List ℤ) (index : ℕ) → index ≤ 4 → length plate ≡ W * H → Raised (bestBefore index) old new 0 (W * H) →
+      Complete (s .mode) plate new → Gathered (s .mode) plate (bestOfAll W H s plate) old new (W * H)
+  gathered-early old new index l size r full =
+      record {
+        is = λ x h. omega (arith, r .inside x (omega arith) h, full .reached x (omega arith), before-grows index x l, all-is x);
+        len = r .len;
+      }
+
+-- one pixel more has reached its own level
+pub reached-more : (mode : ℕ) (plate result : List ℤ) (x : ℕ) → ((y : ℕ) → y < x → keyBy mode (levelAt plate y) ≤ keyAt result y) →
+    keyBy mode (levelAt plate x) ≤ keyAt result x → (y : ℕ) → y < x + 1 → keyBy mode (levelAt plate y) ≤ keyAt result y
+reached-more mode plate result x so-far here y h =
+    ⊎-elim (λ e. let same : x ≡ y = omega arith in subst (λ (z : ℕ). keyBy mode (levelAt plate z) ≤ keyAt result z) same here) (λ l. so-far y l) (le-or-lt x y)
 
 -- ---- the bit of the direction, doubled from one to the next
 

@@ -1,6 +1,6 @@
 -- What holds of a call once every check has passed, and what is made of the gathered levels in the end. These definitions serve contracts inside
 -- the engine only: no public contract cites them.
-use Prim.Native.Nat.{ℕ, _+_, _-_, _*_, _≤_, _<_, min}
+use Prim.Native.Nat.{ℕ, _+_, _-_, _*_, _≤_, _<_, min, max}
 use mathlib.Core.Path.{_≡_}
 use mathlib.Core.Bool.{cond}
 use mathlib.Core.List.{List}
@@ -16,8 +16,7 @@ use Rattle.plate.specs.declared.setting.Setting.{Setting}
 use Rattle.theory.proofs.Reversal.{back}
 use Rattle.theory.proofs.Maxima.{best}
 use Rattle.theory.proofs.Decomposition.{keyAt, across}
-use Rattle.kernel.specs.Sets.{keyBy}
-use Rattle.engine.specs.declared.scan.Scan.{Scan}
+use Rattle.frames.specs.Keys.{keyBy, levelBy}
 
 -- sizes, setting and the lengths of plate, result and work that pass every check
 pub record Accepted (W H : ℕ) (s : Setting) (plate result work : ℕ) : Type 0 where
@@ -45,18 +44,19 @@ bestIfChosen W H s plate bit x = cond (member (s .directions) bit) (bestIn W H s
 unfoldable pub bestOfAll : ℕ → ℕ → Setting → List ℤ → ℕ → ℕ
 bestOfAll W H s plate x = best (λ bit. bestIn W H s plate bit x) (chosen (s .directions))
 
--- the scan of a direction, by its place in the table
-pub record ScanOf (r : Scan) (W H : ℕ) (s : Setting) (index : ℕ) : Type 0 where
-  pub is-mode : r .mode ≡ s .mode
-  pub is-width : r .width ≡ W
-  pub is-height : r .height ≡ H
-  pub is-gaps : r .gaps ≡ s .gaps
-  pub is-index : r .index ≡ index
-  pub is-steps : r .steps ≡ s .length - 1
+-- all levels are the lowest
+pub record Blank (old new : List ℤ) : Type 0 where
+  pub lowest : (x : ℕ) → keyAt new x ≡ 0
+  pub len : length new ≡ length old
 
--- the level with a key, or in another mode than 0 its mirror
-unfoldable pub levelBy : ℕ → ℕ → ℤ
-levelBy mode k = cond (eqb mode 0) (level k) (level (65535 - k))
+-- every level has reached the pixel's own
+pub record Complete (mode : ℕ) (plate result : List ℤ) : Type 0 where
+  pub reached : (x : ℕ) → x < length plate → keyBy mode (levelAt plate x) ≤ keyAt result x
+
+-- the levels of the first n pixels have risen to the best, as far as the pixel's own lets it be seen
+pub record Gathered (mode : ℕ) (plate : List ℤ) (best : ℕ → ℕ) (old new : List ℤ) (n : ℕ) : Type 0 where
+  pub is : (x : ℕ) → x < n → min (keyBy mode (levelAt plate x)) (keyAt new x) ≡ min (keyBy mode (levelAt plate x)) (max (keyAt old x) (best x))
+  pub len : length new ≡ length old
 
 -- each level is what was gathered, but not above the pixel's own; and the plate's levels, each of which is read, have 16 bits
 pub record Finished (mode : ℕ) (plate old new : List ℤ) : Type 0 where

@@ -1,3 +1,1 @@
-pub mod States
-pub mod Gathering
 pub mod Finishing

@@ -1,12 +1,10 @@
 // The first and the last pass over the result.
 ghost use mathlib.Core.Path.{_≡_};
-ghost use Prim.Native.Nat.{_-_, min};
+ghost use Prim.Native.Nat.{min};
 ghost use lib.ListN.{length};
 ghost use Rattle.plate.specs.Levels.{key};
-ghost use Rattle.kernel.specs.Sets.{keyBy};
-ghost use Rattle.engine.specs.Gathering.{Blank};
-ghost use Rattle.engine.specs.Finishing.{Finished, levelBy};
-use kernel::key_by;
+ghost use Rattle.frames.specs.Keys.{keyBy, levelBy};
+ghost use Rattle.engine.specs.Finishing.{Blank, Finished};
 
 // Every level the lowest: no path is found yet.
 pub(crate) fn blank(result: &mut [i16])
@@ -23,11 +21,10 @@ pub(crate) fn blank(result: &mut [i16])
 fn finished(mode: usize, own: i16, best: i16) -> i16
     ensures { λ r. ⌜ r ≡ levelBy mode (min (keyBy mode own) (key best)) ⌝ }
 {
-    let t = kernel::min2(key_by(mode, own), plate::key_of(best));
-    if mode == 0 {
-        return plate::level_of(t);
-    }
-    plate::level_of(65535 - t)
+    frames::level_by(
+        mode,
+        rows::min2(frames::key_by(mode, own), plate::key_of(best)),
+    )
 }
 
 pub(crate) fn finish(result: &mut [i16], plate: &[i16], mode: usize)

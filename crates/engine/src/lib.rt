@@ -2,42 +2,26 @@
 //
 // The method is the published decomposition, taken on grey levels: the best path through a pixel is the
 // best walk that ends there joined with the best walk that goes on from there, over all ways to share
-// the steps and the gaps. A direction is opened line by line (the crate lines) wherever the work buffer
-// has room for four states of a line, which it lacks only for paths longer than both sides of the plate.
-// There, and in the trace, both kinds of walk are kept as plane sets of the whole plate: the walks that end
-// grow by one step at a time (sets.rt), those that go on are wanted at ever fewer steps and are made
-// again from two checkpoints (checkpoints.rt). What is found is gathered in the result itself
-// (gather.rt), one direction after the other (direction.rt, sweep.rt), and in the end held below each
-// pixel's own level (finish.rt).
+// the steps and the gaps. The crate directions does this for one direction; here the directions follow
+// each other (sweep.rt), until there is none left or every pixel has reached its own level, and in the
+// end each pixel is held below its own level (finish.rt).
 //
-// A call takes time by the sizes and the setting alone, and about 76 KB of stack, 140 KB where plane sets
-// are needed, nearly all of it the held rows of the kernel. There is no recursion.
+// A call takes time by the sizes and the setting, and about 175 KB of stack, most of it the best numbers of
+// the pixels. There is no recursion.
 ghost use mathlib.Core.Path.{_≡_};
 ghost use lib.ListN.{length};
 ghost use Rattle.plate.specs.Opening.{filtered};
 ghost use Rattle.plate.specs.Refusals.{filterVerdict};
 ghost use Rattle.plate.specs.Answers.{answered, resultAfter, workAfter};
 
-mod checkpoints;
-mod direction;
 mod finish;
-mod gather;
-mod scan;
-mod sets;
 mod sweep;
 
-// What the trace uses of the plane sets.
 use crate::sweep::sweep;
-pub use checkpoints::Held;
-pub use checkpoints::fetch;
 use plate::Answer;
 use plate::Made;
 use plate::Setting;
 use plate::refusal;
-pub use scan::Scan;
-pub use sets::run_at;
-pub use sets::start_at;
-pub use sweep::scan_of;
 pub use sweep::span_of;
 
 // Fills result with the filtered plate, or refuses (1 to 8) before the first store: then both lent

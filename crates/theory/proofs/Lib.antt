@@ -26,5 +26,7 @@ pub mod Terms
 pub mod Following
 pub mod Recorded
 pub mod Trace
+pub mod Ends
+pub mod Towards
 -- the worked plates
 pub mod WorkedPlates

@@ -21,4 +21,6 @@
 //   Following          a walk that counts is followed pixel by pixel
 //   Recorded           a path as it stands in a buffer
 //   Trace              demand 3 follows from a counted path at the filtered level
+//   Ends               walks that may end at some pixels only: bounds, one step on, and turned round
+//   Towards            the best walks from one pixel, by a recursion that looks back from where they end
 //   WorkedPlates       document 01's worked plates hold of the definitions

@@ -1,6 +1,6 @@
 -- The best path over all usable directions: what one direction after the other finds, by the setting instead of by a scan.
-use Prim.Native.Nat.{ℕ, _+_, _-_, _*_, _^_, _≤_, _<_, min}
-use mathlib.Core.Path.{_≡_, refl, sym, ap, _∙_}
+use Prim.Native.Nat.{ℕ, _+_, _-_, _*_, _^_, _≤_, _<_}
+use mathlib.Core.Path.{_≡_, sym, _∙_}
 use mathlib.Core.Bool.{true, false, true≢false}
 use mathlib.Core.List.{List}
 use mathlib.Core.Logic.{⊎-elim}
@@ -9,14 +9,17 @@ use lib.IntN.{ℤ}
 use Rattle.basics.proofs.Numbers.{le-or-lt}
 use Rattle.plate.specs.Paths.{span}
 use Rattle.plate.specs.declared.setting.Setting.{Setting}
-use Rattle.engine.specs.States.{Sound, bitOf, keyOf}
-use Rattle.engine.specs.Finishing.{ScanOf}
-use Rattle.engine.specs.declared.scan.Scan.{Scan}
+use Rattle.engine.specs.Finishing.{Accepted}
+use Rattle.tracing.specs.Scans.{Sound, ScanOf, bitOf, keyOf}
+use Rattle.tracing.specs.declared.scan.Scan.{Scan}
 use Rattle.tracing.specs.Usable.{usable, FirstUsable}
 use Rattle.tracing.specs.Finding.{Attained, FoundIn, FoundAt, BestOf, keysBy}
 use Rattle.tracing.specs.Drawing.{Drawn}
 use Rattle.tracing.specs.declared.find.Found.{Found}
-use Rattle.tracing.proofs.Directions.{usable-long}
+
+-- the work buffer keeps its size
+pub accepted-still : (W H : ℕ) (s : Setting) (plate result work work₁ : ℕ) → work₁ ≡ work → Accepted W H s plate result work → Accepted W H s plate result work₁
+accepted-still W H s plate result work work₁ e a = rw e a
 
 -- ---- a scan is that of its direction
 
@@ -24,6 +27,12 @@ module _ (r : Scan) (W H : ℕ) (s : Setting) (index : ℕ) (sound : Sound r) (o
   pub scan-keys : (f : List ℤ) → keyOf r f ≡ keysBy (s .mode) f
   unfolding keyOf keysBy
   scan-keys f = rw (of .is-mode)
+
+  pub scan-pixels : r .width * r .height ≡ W * H
+  scan-pixels = rw (of .is-width, of .is-height)
+
+  pub scan-room : (work : ℕ) → 4 * (s .gaps + 1) * (W * H) ≤ work → 4 * (r .gaps + 1) * (r .width * r .height) ≤ work
+  scan-room work h = rw (scan-pixels, of .is-gaps) h
 
   pub scan-spare : r .spare ≡ span W H (2 ^ index) - s .length
   scan-spare =

@@ -5,20 +5,23 @@ use mathlib.Core.List.{List, map}
 use mathlib.Core.Logic.{⊎-elim}
 use native.Mathlib.Omega.{arith}
 use lib.Dec.{eqb}
-use lib.ListN.{length}
-use lib.IntN.{ℤ}
+use lib.ListN.{length, getD}
+use lib.IntN.{ℤ, pos}
 use lib.Signed.{mag}
+use mir.Syntax.{w16}
+use mir.Val.{toZ, ofZ}
 use borrow.Author.Tests.{eq-eqb, ne-eqb, eqb-true, eqb-false}
 use Rattle.basics.proofs.Tests.{true-or-false}
 use Rattle.plate.specs.Levels.{key, mirror}
 use Rattle.plate.specs.Opening.{levelAt}
 use Rattle.plate.specs.declared.setting.Setting.{Setting}
-use Rattle.plate.proofs.Keys.{key-bound}
 use Rattle.theory.proofs.Decomposition.{keyAt}
 use Rattle.theory.proofs.Opening.{Levels}
 use Rattle.theory.proofs.Mirror.{turned, levelAt-turned}
-use Rattle.kernel.specs.Sets.{keyBy}
-use Rattle.kernel.proofs.KeyLaws.{key-plain, mirrored-key}
+use Rattle.frames.specs.Keys.{keyBy}
+use Rattle.frames.proofs.KeyLaws.{key-plain, mirrored-key, keyBy-bound, level-read}
+use Rattle.tracing.specs.Scans.{keyOf}
+use Rattle.tracing.specs.declared.scan.Scan.{Scan}
 
 module _ (s : Setting) (v : ℤ) where
   pub turned-opening : s .mode ≡ 0 → turned s v ≡ v
@@ -30,17 +33,26 @@ module _ (s : Setting) (v : ℤ) where
   turned-closing n = rw (ne-eqb (s .mode) 0 n)
 
   -- the key by the mode is that of the turned level
-  pub key-turned : mag v < 32768 → keyBy (s .mode) v ≡ key (turned s v)
-  key-turned h =
+  pub key-turned : keyBy (s .mode) v ≡ key (turned s v)
+  key-turned =
       ⊎-elim
       (λ e. sym (key-plain (s .mode) v (eqb-true (s .mode) 0 e)) ∙ ap key (sym (turned-opening (eqb-true (s .mode) 0 e))))
-      (λ e. mirrored-key (s .mode) v (eqb-false (s .mode) 0 e) h ∙ ap key (sym (turned-closing (eqb-false (s .mode) 0 e))))
+      (λ e. mirrored-key (s .mode) v (eqb-false (s .mode) 0 e) ∙ ap key (sym (turned-closing (eqb-false (s .mode) 0 e))))
       (true-or-false (eqb (s .mode) 0))
-
-pub keyBy-bound : (mode : ℕ) (v : ℤ) → mag v < 32768 → keyBy mode v ≤ 65535
-unfolding keyBy
-keyBy-bound mode v h = ⊎-elim (λ e. rw e (key-bound v h)) (λ e. rw e (omega arith)) (true-or-false (eqb mode 0))
 
 -- so on the plate the keys that the engine works with are those of the turned plate
 pub keys-turned : (s : Setting) (f : List ℤ) → Levels f → (p : ℕ) → p < length f → keyBy (s .mode) (levelAt f p) ≡ keyAt (map (turned s) f) p
-keys-turned s f l p h = key-turned s (levelAt f p) (l .size p) ∙ ap key (sym (levelAt-turned s f p h))
+keys-turned s f l p h = key-turned s (levelAt f p) ∙ ap key (sym (levelAt-turned s f p h))
+
+-- ---- the keys of a scan
+
+pub keys-bounded : (s : Scan) (plate : List ℤ) → Levels plate → (p : ℕ) → keyOf s plate p ≤ 65535
+unfolding keyOf
+keys-bounded s plate levels p = keyBy-bound (s .mode) (levelAt plate p) (levels .size p)
+
+-- the key of a pixel, as the code reads its level
+pub key-read :
+    (s : Scan) (plate : List ℤ) (p k : ℕ) → mag (getD plate p (pos 0)) < 32768 → p < length plate →
+    k ≡ keyBy (s .mode) (toZ w16 (ofZ w16 (getD plate p (pos 0)))) → k ≡ keyOf s plate p
+unfolding keyOf
+key-read s plate p k small on e = level-read (keyBy (s .mode)) plate p k small on e

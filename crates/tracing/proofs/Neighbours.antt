@@ -1,24 +1,20 @@
 -- The neighbours of a pixel by numbered steps: what the three steps of a heading reach are just the places around the pixel. And a search that has
 -- tried some of the steps.
-use Prim.Native.Nat.{ℕ, zero, suc, _+_, _-_, _*_, _/_, _%_, _^_, _≤_, _<_}
+use Prim.Native.Nat.{ℕ, zero, suc, _+_, _-_, _*_, _/_, _%_, _≤_, _<_}
 use mathlib.Core.Path.{_≡_, refl, sym, ap, _∙_}
-use mathlib.Core.Bool.{Bool, true, false, _&&_}
-use mathlib.Core.List.{List, [], _∷_, List·Memᴰ, List·Memᴰ·head, List·Memᴰ·tail}
+use mathlib.Core.List.{[], _∷_, List·Memᴰ, List·Memᴰ·head, List·Memᴰ·tail}
 use mathlib.Core.Logic.{⊎-elim}
 use native.Mathlib.Omega.{arith}
-use lib.Dec.{T, leb, leb→le, le→leb}
 use borrow.Author.Tests.{lt-ltb, le-ltb}
 use Rattle.basics.proofs.Numbers.{le-or-lt, below-three}
-use Rattle.basics.proofs.Tests.{true-T, and-both, both-and}
 use Rattle.basics.proofs.Lists.{one-of-three}
 use Rattle.plate.specs.Directions.{Step, stepAt}
 use Rattle.plate.specs.Paths.{Reached, Reached.at, Reached.leaves, placeAt, stepFrom, reachedBy}
 use Rattle.theory.proofs.Steps.{stepped, landed-on, reached-find, reached-keep}
-use Rattle.theory.proofs.Sides.{around}
-use Rattle.kernel.specs.Sets.{across, down}
-use Rattle.kernel.proofs.Landing.{toward, less, step-place}
-use Rattle.kernel.proofs.Bridge.{small-steps, around-steps}
-use Rattle.tracing.specs.Headings.{bitOf, onward, roomAt, reachedAt, placeOr, Known}
+use Rattle.frames.specs.Steps.{across, down}
+use Rattle.frames.proofs.Landing.{toward, less, step-place}
+use Rattle.frames.proofs.Bridge.{small-steps, around-steps}
+use Rattle.tracing.specs.Headings.{onward, roomAt, reachedAt, placeOr, Known}
 use Rattle.tracing.specs.Choosing.{Fitting, Chosen}
 use Rattle.tracing.specs.declared.heading.Heading.{Heading}
 
@@ -105,16 +101,16 @@ at-placed n r q x e f = e ∙ rw f
 
 -- ---- a search that has tried the first steps
 
-module _ (numbers : ℕ → ℕ) (h : Heading) (p m t : ℕ) where
+module _ (h : Heading) (p m : ℕ) where
   -- none of them leads to a neighbour that fits
   pub record Tried (number : ℕ) : Type 0 where
-    pub none : (i q : ℕ) → i < number → reachedAt h i p ≡ at q → Fitting numbers h p m t q → ⊥
+    pub none : (i q : ℕ) → i < number → reachedAt h i p ≡ at q → Fitting h p m q → ⊥
 
   pub tried-none : Tried 0
   tried-none = record { none = λ i q l e f. omega arith }
 
   -- one step more, which leads off the plate or to a place that does not suit
-  pub tried-more : (number n : ℕ) → n ≡ number + 1 → Tried number → ((q : ℕ) → reachedAt h number p ≡ at q → Fitting numbers h p m t q → ⊥) → Tried n
+  pub tried-more : (number n : ℕ) → n ≡ number + 1 → Tried number → ((q : ℕ) → reachedAt h number p ≡ at q → Fitting h p m q → ⊥) → Tried n
   tried-more number n s d miss =
       record {
         none = λ i q l e f.
@@ -122,30 +118,26 @@ module _ (numbers : ℕ → ℕ) (h : Heading) (p m t : ℕ) where
       }
 
   module _ (k : Known h) (number x : ℕ) (is : x ≡ placeOr (h .width * h .height) (reachedAt h number p)) where
-    pub left-misses : h .width * h .height ≤ x → (q : ℕ) → reachedAt h number p ≡ at q → Fitting numbers h p m t q → ⊥
+    pub left-misses : h .width * h .height ≤ x → (q : ℕ) → reachedAt h number p ≡ at q → Fitting h p m q → ⊥
     left-misses off q e f = omega (arith, reached-on h k p number q e, at-placed (h .width * h .height) (reachedAt h number p) q x is e)
 
-    pub unsuited-misses :
-        (leb m (roomAt h x) && leb t (numbers x)) ≡ false → (q : ℕ) → reachedAt h number p ≡ at q → Fitting numbers h p m t q → ⊥
-    unsuited-misses fails q e f =
-        let same : x ≡ q = at-placed (h .width * h .height) (reachedAt h number p) q x is e in
-        let passes : T (leb m (roomAt h x) && leb t (numbers x)) =
-        rw same (both-and (leb m (roomAt h q)) (leb t (numbers q)) (le→leb m (roomAt h q) (f .roomy)) (le→leb t (numbers q) (f .high))) in
-        rw fails at passes
+    pub narrow-misses : (n : ℕ) → n ≡ roomAt h x → n < m → (q : ℕ) → reachedAt h number p ≡ at q → Fitting h p m q → ⊥
+    narrow-misses n e less q reached f =
+        let same : x ≡ q = at-placed (h .width * h .height) (reachedAt h number p) q x is reached in
+        omega (arith, f .roomy, ap (roomAt h) same)
 
-    pub suited-chosen : number < 3 → x < h .width * h .height → (leb m (roomAt h x) && leb t (numbers x)) ≡ true → Chosen numbers h p m t x
-    suited-chosen l on passes =
-        let b = and-both (leb m (roomAt h x)) (leb t (numbers x)) (true-T _ passes) in
+    pub roomy-chosen : (n : ℕ) → n ≡ roomAt h x → number < 3 → x < h .width * h .height → m ≤ n → Chosen h p m x
+    roomy-chosen n e l on enough =
         record {
-          fits = λ z. record {
-            near = reached-around h k p number x l (placed-at (h .width * h .height) (reachedAt h number p) x is on);
-            roomy = leb→le m (roomAt h x) (b .0);
-            high = leb→le t (numbers x) (b .1);
-          };
+          fits = λ z.
+              record {
+                near = reached-around h k p number x l (placed-at (h .width * h .height) (reachedAt h number p) x is on);
+                roomy = omega arith;
+              };
           found = λ q f. on;
         }
 
-  pub none-chosen : Known h → (number n : ℕ) → 3 ≤ number → n ≡ h .width * h .height → Tried number → Chosen numbers h p m t n
+  pub none-chosen : Known h → (number n : ℕ) → 3 ≤ number → n ≡ h .width * h .height → Tried number → Chosen h p m n
   none-chosen k number n l e d =
       record {
         fits = λ z. absurd (omega arith);

@@ -1,92 +1,294 @@
--- The notes of one pixel: at each step its numbers of all planes come after those of the steps before, and later steps leave them alone.
-use Prim.Native.Nat.{ℕ, _+_, _-_, _*_, _^_, _≤_, _<_}
-use mathlib.Core.Path.{_≡_, refl, sym, ap, _∙_}
-use mathlib.Core.Bool.{Bool}
+-- The notes of one side. They rise place by place: to the numbers of a run, of the planes of a row, of the rows of a state, of all states. Each is the
+-- same law, `lifted-then`: what rises to some numbers and then to others has risen to both.
+use Prim.Native.Nat.{ℕ, _+_, _-_, _*_, _≤_, _<_, max}
+use mathlib.Core.Path.{_≡_, refl, sym, ap, subst, _∙_}
 use mathlib.Core.List.{List}
-use mathlib.Core.Logic.{⊎-elim}
-use native.Mathlib.Nat.{zero-add, mul-le-mul, add-mul, mul-comm}
+use mathlib.Core.Logic.{_⊎_, inl, inr, ⊎-elim}
 use native.Mathlib.Omega.{arith}
-use lib.ListN.{getD}
-use lib.IntN.{ℤ}
-use Rattle.basics.proofs.Numbers.{le-or-lt, rows-fit, below-four}
-use Rattle.plate.specs.Paths.{span}
-use Rattle.theory.proofs.LevelSets.{reach}
-use Rattle.kernel.specs.Runs.{Between}
-use Rattle.engine.specs.States.{Sound, Holds, Apart, bitOf, keyOf, onward, roomAt, cells}
-use Rattle.engine.specs.declared.scan.Scan.{Scan}
-use Rattle.tracing.specs.Finding.{Noted}
+use lib.Dec.{eqb}
+use lib.ListN.{length, getD, set, length-set}
+use lib.Seq.{getD-set-same, getD-set-other}
+use borrow.Author.Tests.{eqb-true, eqb-false}
+use Rattle.basics.proofs.Numbers.{le-or-lt}
+use Rattle.basics.proofs.Tests.{true-or-false}
+use Rattle.rows.specs.Runs.{Apart}
+use Rattle.rows.specs.Plans.{Sound, rowsIn, rowLo, rowHi, rowSize, stateSize, keysSize}
+use Rattle.states.specs.States.{Holds, LastHolds, Advanced}
+use Rattle.states.specs.Stacks.{KeysAre, Sequence}
+use Rattle.states.proofs.StackLaws.{apart-none, apart-then, keys-apart, made, last-made}
+use Rattle.rows.specs.declared.plan.Plan.{Plan}
+use Rattle.directions.specs.Numbers.{stepsAt}
+use Rattle.tracing.specs.Noting.{Highest, Lifted, FromRow, FromState, NotesFit, rowCells, stateCells}
 
--- a path has no more pixels than the plate, so the notes have room where a plane set has
-both-sides : (W H : ℕ) → 1 ≤ W → 1 ≤ H → W + H - 1 ≤ H * W
-both-sides W H w h =
-    let e : H - 1 + 1 ≡ H = omega arith in
-    let a : (H - 1 + 1) * W ≡ (H - 1) * W + 1 * W = add-mul (H - 1) 1 W in
-    let b : (H - 1 + 1) * W ≡ H * W = ap (λ (n : ℕ). n * W) e in
-    let c : (H - 1) * 1 ≤ (H - 1) * W = mul-le-mul {n₁ = H - 1} {m₁ = 1} {n₂ = H - 1} {m₂ = W} (omega arith) w in
-    omega arith
+-- ---- the highest of a run
 
-span-pixels : (W H index : ℕ) → 1 ≤ W → 1 ≤ H → index < 4 → span W H (2 ^ index) ≤ H * W
-unfolding span
-span-pixels W H index w h l =
-    let a = both-sides W H w h in
-    below-four (λ (i : ℕ). span W H (2 ^ i) ≤ H * W) (omega arith) (omega arith) (omega arith) (omega arith) index l
+pub highest-none : (f : ℕ → ℕ) (at v : ℕ) → Highest f at (at + 0) v v
+highest-none f at v = record { not-below = omega arith; best = λ x l h. absurd (omega arith); source = inl refl }
 
-pub notes-fit : (s : Scan) → Sound s → (m : ℕ) → m ≤ s .steps → m * (s .gaps + 1) + (s .gaps + 1) ≤ s .size
-notes-fit s sound m l =
-    omega (
-      arith,
-      rows-fit m 1 (s .pixels) (s .gaps + 1)
-          (omega (arith, sound .long, sound .is-pixels, span-pixels (s .width) (s .height) (s .index) (sound .wide) (sound .high) (sound .known))),
-      sound .is-size,
-      mul-comm (s .gaps + 1) (s .pixels),
-    )
+pub highest-more :
+    (f : ℕ → ℕ) (at n v r u : ℕ) → Highest f at (at + n) v r → u ≡ max r (f (at + n)) → Highest f at (at + (n + 1)) v u
+highest-more f at n v r u h e =
+    record {
+      not-below = omega (arith, h .not-below);
+      best = λ x lo hi. ⊎-elim (λ l. let same : x ≡ at + n = omega (arith, l) in rw same (omega arith)) (λ l. omega (arith, h .best x lo l))
+          (le-or-lt (at + n) x);
+      source =
+          ⊎-elim
+          (λ l. let w : u ≡ f (at + n) = omega arith in inr (at + n, omega arith, omega arith, w))
+          (λ l.
+          let w : u ≡ r = omega arith in
+          ⊎-elim (λ s. inl (w ∙ s)) (λ s. inr (s .0, s .1, omega (arith, s .2), w ∙ s .3)) (h .source))
+          (le-or-lt r (f (at + n)));
+    }
 
-module _ (s : Scan) (sound : Sound s) (plate : List ℤ) (backwards : Bool) (x : ℕ) (on : x < s .pixels) where
-  -- what is noted of a set
-  noted-number :
-      (m to : ℕ) (old new : List ℕ) → Holds (cells old 0) plate s backwards m →
-      Between (λ (q : ℕ). getD old ((q - to) * s .pixels + x) 0) old new to (to + (s .gaps + 1)) → (j : ℕ) → j ≤ s .gaps →
-      roomAt s backwards x ≤ m + s .spare → getD new (to + j) 0 ≡ reach (onward s backwards) (keyOf s plate) m j x
-  noted-number m to old new held b j l near =
-      let e : to + j - to ≡ j = omega arith in
-      b .inside (to + j) (omega arith) (omega arith)
-      ∙ ap (λ (i : ℕ). getD old (i * s .pixels + x) 0) e
-      ∙ ap (λ (i : ℕ). getD old i 0) (sym (zero-add (j * s .pixels + x)))
-      ∙ held .is j x l on near
+-- ---- rising to some numbers, and then to others
 
-  abbrev Notes : (List ℕ) → ℕ → ℕ → Type 0
-  Notes work at m = Noted (cells work at) (s .width) (s .height) (bitOf s) backwards (keyOf s plate) (s .gaps) (s .spare) m x
+pub lifted-then :
+    (A B C : ℕ → ℕ → Type 0) (old mid new : List ℕ) → ((q v : ℕ) → C q v → A q v ⊎ B q v) → ((q v : ℕ) → A q v → C q v) → ((q v : ℕ) → B q v → C q v) →
+    Lifted A old mid → Lifted B mid new → Lifted C old new
+lifted-then A B C old mid new split left right a b =
+    record {
+      grown = λ q. omega (arith, a .grown q, b .grown q);
+      reached = λ q v c. ⊎-elim (λ h. omega (arith, a .reached q v h, b .grown q)) (λ h. b .reached q v h) (split q v c);
+      source = λ q.
+          ⊎-elim
+          (λ e. ⊎-elim (λ f. inl (e ∙ f)) (λ s. inr (subst (λ (v : ℕ). C q v) (sym e) (left q (getD mid q 0) s))) (a .source q))
+          (λ s. inr (right q (getD new q 0) s))
+          (b .source q);
+      len = b .len ∙ a .len;
+    }
 
-  pub noted-first :
-      (at : ℕ) (old new : List ℕ) → Holds (cells old 0) plate s backwards 0 →
-      Between (λ (q : ℕ). getD old ((q - at) * s .pixels + x) 0) old new at (at + (s .gaps + 1)) → Notes new at 0
-  noted-first at old new held b =
-      record {
-        is = λ l j h k near.
-            let e : l ≡ 0 = omega arith in
-            let f : at + (0 * (s .gaps + 1) + j) ≡ at + j = omega arith in
-            rw e (rw f (noted-number 0 at old new held b j k (rw e at near)));
-      }
+-- to none
+pub lifted-none : (A : ℕ → ℕ → Type 0) (notes : List ℕ) → ((q v : ℕ) → A q v → ⊥) → Lifted A notes notes
+lifted-none A notes none = record { grown = λ q. omega arith; reached = λ q v a. absurd (none q v a); source = λ q. inl refl; len = refl }
 
-  pub noted-more :
-      (at m to : ℕ) (old mid new : List ℕ) → s .size ≤ at → to ≡ at + (m + 1) * (s .gaps + 1) → Notes old at m → Apart old mid 0 (0 + s .size) →
-      Holds (cells mid 0) plate s backwards (m + 1) → Between (λ (q : ℕ). getD mid ((q - to) * s .pixels + x) 0) mid new to (to + (s .gaps + 1)) →
-      Notes new at (m + 1)
-  noted-more at m to old mid new fits is-to noted apart held b =
-      record {
-        is = λ l j h k near.
-            ⊎-elim
-            (λ u.
-            let q : ℕ = at + (l * (s .gaps + 1) + j) in
-            b .under q (omega (arith, rows-fit l 1 (m + 1) (s .gaps + 1) (omega arith))) ∙ apart .over q (omega arith) ∙ noted .is l j u k near)
-            (λ u.
-            let e : l ≡ m + 1 = omega arith in
-            let f : at + ((m + 1) * (s .gaps + 1) + j) ≡ to + j = omega arith in
-            rw e (rw f (noted-number (m + 1) to mid new held b j k (rw e at near))))
-            (le-or-lt l m);
-      }
+-- the same numbers, told otherwise
+pub lifted-same :
+    (A B : ℕ → ℕ → Type 0) (old new : List ℕ) → ((q v : ℕ) → A q v → B q v) → ((q v : ℕ) → B q v → A q v) → Lifted A old new → Lifted B old new
+lifted-same A B old new to from a =
+    record {
+      grown = a .grown;
+      reached = λ q v b. a .reached q v (from q v b);
+      source = λ q. ⊎-elim inl (λ s. inr (to q (getD new q 0) s)) (a .source q);
+      len = a .len;
+    }
 
-  -- a change before them leaves the notes alone
-  pub noted-beyond : (old new : List ℕ) (at lo hi m : ℕ) → Apart old new lo hi → hi ≤ at → Notes old at m → Notes new at m
-  noted-beyond old new at lo hi m a h noted =
-      record { is = λ l j u k near. a .over (at + (l * (s .gaps + 1) + j)) (omega arith) ∙ noted .is l j u k near }
+-- ---- one note
+
+-- v is a number of a run that is noted at one place
+pub record FromRun (f : ℕ → ℕ) (lo hi to q v : ℕ) : Type 0 where
+  pub pixel : ℕ
+  pub low : lo ≤ pixel
+  pub high : pixel < hi
+  pub at : q ≡ to
+  pub is : v ≡ f pixel
+
+-- what holds of the number that is stored and of the others
+set-each :
+    (xs : List ℕ) (i v : ℕ) → i < length xs → (P : ℕ → ℕ → Type 0) → P i v → ((q : ℕ) → P q (getD xs q 0)) → (q : ℕ) → P q (getD (set xs i v) q 0)
+set-each xs i v l P here there q =
+    ⊎-elim
+    (λ e. let same = eqb-true q i e in subst (λ (n : ℕ). P n (getD (set xs i v) n 0)) (sym same) (subst (λ (u : ℕ). P i u) (sym
+    (getD-set-same xs i v 0 l)) here))
+    (λ e. subst (λ (u : ℕ). P q u) (sym (getD-set-other xs i q v 0 (eqb-false q i e))) (there q))
+    (true-or-false (eqb q i))
+
+pub lifted-set :
+    (f : ℕ → ℕ) (lo hi to r : ℕ) (notes : List ℕ) → to < length notes → Highest f lo hi (getD notes to 0) r →
+    Lifted (FromRun f lo hi to) notes (set notes to r)
+lifted-set f lo hi to r notes l h =
+    record {
+      grown = set-each notes to r l (λ (q v : ℕ). getD notes q 0 ≤ v) (h .not-below) (λ q. omega arith);
+      reached = λ q v s.
+          subst (λ (n : ℕ). v ≤ getD (set notes to r) n 0) (sym (s .at)) (omega (
+            arith,
+            s .is,
+            h .best (s .pixel) (s .low)
+                (s .high),
+            getD-set-same notes to r 0 l,
+          ));
+      source =
+          set-each notes to r l (λ (q v : ℕ). (v ≡ getD notes q 0) ⊎ FromRun f lo hi to q v)
+          (⊎-elim inl (λ s. inr (record { pixel = s .0; low = s .1; high = s .2; at = refl; is = s .3 })) (h .source)) (λ q. inl refl);
+      len = length-set notes to r;
+    }
+
+-- ---- the planes of a row
+
+pub row-lifted-none : (f : ℕ → ℕ → ℕ) (lo hi to : ℕ) (notes : List ℕ) → Lifted (FromRow f lo hi to 0) notes notes
+row-lifted-none f lo hi to notes = lifted-none _ notes (λ q v s. omega (arith, s .plane-below))
+
+module _ (f : ℕ → ℕ → ℕ) (lo hi to j : ℕ) where
+  row-split : (q v : ℕ) → FromRow f lo hi to (j + 1) q v → FromRow f lo hi to j q v ⊎ FromRun (f j) lo hi (to + j) q v
+  row-split q v s =
+      ⊎-elim
+      (λ l.
+      let same : s .plane ≡ j = omega (arith, s .plane-below) in
+      inr (record {
+        pixel = s .pixel;
+        low = s .low;
+        high = s .high;
+        at = s .at ∙ ap (λ (n : ℕ). to + n) same;
+        is = s .is ∙ ap (λ (n : ℕ). f n
+            (s .pixel)) same;
+      }))
+      (λ l. inl (record { plane = s .plane; pixel = s .pixel; plane-below = l; low = s .low; high = s .high; at = s .at; is = s .is }))
+      (le-or-lt j (s .plane))
+
+  row-wider : (q v : ℕ) → FromRow f lo hi to j q v → FromRow f lo hi to (j + 1) q v
+  row-wider q v s =
+      record { plane = s .plane; pixel = s .pixel; plane-below = omega (arith, s .plane-below); low = s .low; high = s .high; at = s .at; is = s .is }
+
+  row-last : (q v : ℕ) → FromRun (f j) lo hi (to + j) q v → FromRow f lo hi to (j + 1) q v
+  row-last q v s = record { plane = j; pixel = s .pixel; plane-below = omega arith; low = s .low; high = s .high; at = s .at; is = s .is }
+
+  pub row-lifted-more :
+      (r : ℕ) (old mid : List ℕ) → to + j < length mid → Lifted (FromRow f lo hi to j) old mid → Highest (f j) lo hi (getD mid (to + j) 0) r →
+      Lifted (FromRow f lo hi to (j + 1)) old (set mid (to + j) r)
+  row-lifted-more r old mid l d h =
+      lifted-then _ _ _ old mid (set mid (to + j) r) row-split row-wider row-last d (lifted-set (f j) lo hi (to + j) r mid l h)
+
+-- the run of the work buffer that is plane j of a row
+pub highest-cells :
+    (work : List ℕ) (at across j lo hi from n v r : ℕ) → lo ≤ hi → n ≡ hi - lo → from ≡ at + lo + j * across →
+    Highest (λ (x : ℕ). getD work x 0) from (from + n) v r → Highest (rowCells work at across j) lo hi v r
+highest-cells work at across j lo hi from n v r o en ef h =
+    record {
+      not-below = h .not-below;
+      best = λ x l u. h .best (at + (j * across + x)) (omega arith) (omega arith);
+      source =
+          ⊎-elim inl
+          (λ s.
+          let x = s .0 - (at + j * across) in
+          let e : s .0 ≡ at + (j * across + x) = omega (arith, s .1) in
+          inr (x, omega (arith, s .1), omega (arith, s .1, s .2), s .3 ∙ ap (λ (i : ℕ). getD work i 0) e))
+          (h .source);
+    }
+
+-- ---- the rows of a state
+
+pub state-lifted-none : (p : Plan) (f : ℕ → ℕ → ℕ → ℕ) (to e : ℕ) (notes : List ℕ) → Lifted (FromState p f to e 0) notes notes
+state-lifted-none p f to e notes = lifted-none _ notes (λ q v s. omega (arith, s .row-below))
+
+module _ (p : Plan) (f : ℕ → ℕ → ℕ → ℕ) (to e m : ℕ) where
+  abbrev RowOf : ℕ → ℕ → ℕ → Type 0
+  RowOf m q v = FromRow (f m) (rowLo p e m) (rowHi p e m) (to + stepsAt p e m * p .planes) (p .planes) q v
+
+  state-split : (q v : ℕ) → FromState p f to e (m + 1) q v → FromState p f to e m q v ⊎ RowOf m q v
+  state-split q v s =
+      ⊎-elim
+      (λ l. let same : s .row ≡ m = omega (arith, s .row-below) in inr (subst (λ (n : ℕ). RowOf n q v) same (s .number)))
+      (λ l. inl (record { row = s .row; row-below = l; number = s .number }))
+      (le-or-lt m (s .row))
+
+  pub state-lifted-more :
+      (old mid new : List ℕ) → Lifted (FromState p f to e m) old mid → Lifted (RowOf m) mid new → Lifted (FromState p f to e (m + 1)) old new
+  state-lifted-more old mid new d r =
+      lifted-then _ _ _ old mid new state-split
+      (λ q v s. record { row = s .row; row-below = omega (arith, s .row-below); number = s .number })
+      (λ q v s. record { row = m; row-below = omega arith; number = s })
+      d r
+
+-- the notes of a row find room
+pub steps-fit :
+    (p : Plan) (e to size m steps : ℕ) → NotesFit p e to size → steps ≡ stepsAt p e m → m < rowsIn p e → to + steps * p .planes + p .planes ≤ size
+steps-fit p e to size m steps f es h = rw es (f .fits m h)
+
+-- the same numbers of a row
+pub row-same :
+    (f g : ℕ → ℕ → ℕ) (lo hi to planes q v : ℕ) → ((j x : ℕ) → j < planes → lo ≤ x → x < hi → f j x ≡ g j x) → FromRow f lo hi to planes q v →
+    FromRow g lo hi to planes q v
+row-same f g lo hi to planes q v e s =
+    record {
+      plane = s .plane;
+      pixel = s .pixel;
+      plane-below = s .plane-below;
+      low = s .low;
+      high = s .high;
+      at = s .at;
+      is = s .is ∙ e (s .plane) (s .pixel) (s .plane-below) (s .low) (s .high);
+    }
+
+-- row m of a state in the work buffer
+pub row-in-state :
+    (p : Plan) (to e m at base lo hi steps : ℕ) (work old new : List ℕ) → at ≡ base + m * rowSize p → lo ≡ rowLo p e m → hi ≡ rowHi p e m →
+    steps ≡ stepsAt p e m → Lifted (FromRow (rowCells work at (p .across)) lo hi (to + steps * p .planes) (p .planes)) old new →
+    Lifted (FromRow (stateCells work base p m) (rowLo p e m) (rowHi p e m) (to + stepsAt p e m * p .planes) (p .planes)) old new
+row-in-state p to e m at base lo hi steps work old new ea el eh es d =
+    let cell : (j x : ℕ) → rowCells work at (p .across) j x ≡ stateCells work base p m j x =
+    λ j x. ap (λ (i : ℕ). getD work i 0) (let i : at + (j * p .across + x) ≡ base + (m * rowSize p + (j * p .across + x)) = omega arith in i) in
+    lifted-same _ _ old new
+    (λ q v s. row-same _ _ _ _ _ _ q v (λ j x _ _ _. cell j x) s)
+    (λ q v s. row-same _ _ _ _ _ _ q v (λ j x _ _ _. sym (cell j x)) s)
+    (rw (el, eh, es) at d)
+
+-- ---- the states of a side
+
+-- v is a number of one of the first states
+pub record FromSide (p : Plan) (f : ℕ → ℕ → ℕ → ℕ → ℕ) (to states q v : ℕ) : Type 0 where
+  pub state : ℕ
+  pub state-below : state < states
+  pub number : FromState p (f state) to state (rowsIn p state) q v
+
+-- the same numbers of a state
+state-same :
+    (p : Plan) (f g : ℕ → ℕ → ℕ → ℕ) (to e q v : ℕ) →
+    ((m j x : ℕ) → m < rowsIn p e → j < p .planes → rowLo p e m ≤ x → x < rowHi p e m → f m j x ≡ g m j x) →
+    FromState p f to e (rowsIn p e) q v → FromState p g to e (rowsIn p e) q v
+state-same p f g to e q v same s =
+    record {
+      row = s .row;
+      row-below = s .row-below;
+      number = row-same _ _ _ _ _ _ q v (λ j x hj lo hi. same (s .row) j x (s .row-below) hj lo hi) (s .number);
+    }
+
+module _ (p : Plan) (f : ℕ → ℕ → ℕ → ℕ → ℕ) (to e : ℕ) where
+  side-split : (q v : ℕ) → FromSide p f to (e + 1) q v → FromSide p f to e q v ⊎ FromState p (f e) to e (rowsIn p e) q v
+  side-split q v s =
+      ⊎-elim
+      (λ l.
+      let same : s .state ≡ e = omega (arith, s .state-below) in
+      inr (subst (λ (n : ℕ). FromState p (f n) to n (rowsIn p n) q v) same (s .number)))
+      (λ l. inl (record { state = s .state; state-below = l; number = s .number }))
+      (le-or-lt e (s .state))
+
+  side-lifted-more :
+      (base : ℕ) (work old mid new : List ℕ) → Holds work base p e (f e) → Lifted (FromSide p f to e) old mid →
+      Lifted (FromState p (stateCells work base p) to e (rowsIn p e)) mid new → Lifted (FromSide p f to (e + 1)) old new
+  side-lifted-more base work old mid new h d n =
+      lifted-then _ _ _ old mid new side-split
+      (λ q v s. record { state = s .state; state-below = omega (arith, s .state-below); number = s .number })
+      (λ q v s. record { state = e; state-below = omega arith; number = s })
+      d
+      (lifted-same _ _ mid new
+      (λ q v s. state-same p _ _ to e q v (h .is) s)
+      (λ q v s. state-same p _ _ to e q v (λ m j x hm hj lo hi. sym (h .is m j x hm hj lo hi)) s)
+      n)
+
+-- the first e states are made one after the other and noted, whatever they are
+pub record SideNoted (p : Plan) (states to base e : ℕ) (work₀ work notes₀ notes : List ℕ) : Type 0 where
+  pub is : (keys : ℕ → ℕ) (f : ℕ → ℕ → ℕ → ℕ → ℕ) → KeysAre work₀ p keys → Sequence p keys states f →
+      LastHolds work base p e (f (e - 1)) × Lifted (FromSide p f to e) notes₀ notes
+  pub apart : Apart work₀ work base (base + stateSize p)
+
+pub side-none : (p : Plan) (states to base : ℕ) (work notes : List ℕ) → SideNoted p states to base 0 work work notes notes
+side-none p states to base work notes =
+    record {
+      is = λ keys f k s. (record { is = λ d l e. absurd (omega arith) }, lifted-none _ notes (λ q v s. omega (arith, s .state-below)));
+      apart = apart-none work base (base + stateSize p);
+    }
+
+pub side-more :
+    (p : Plan) → Sound p → (states to base e : ℕ) (work₀ work work′ notes₀ notes notes′ : List ℕ) → e < 65536 → e < states → keysSize p ≤ base →
+    SideNoted p states to base e work₀ work notes₀ notes → Advanced p e work work′ base base →
+    Lifted (FromState p (stateCells work′ base p) to e (rowsIn p e)) notes notes′ → SideNoted p states to base (e + 1) work₀ work′ notes₀ notes′
+side-more p sound states to base e work₀ work work′ notes₀ notes notes′ few below clear d a n =
+    record {
+      is = λ keys f k s.
+          let before = d .is keys f k s in
+          let held =
+          made p sound work work′ keys states e base base f few below a (keys-apart p sound work₀ work keys base (base + stateSize p) (d .apart)
+          clear k) s (before .0) in
+          (last-made p sound work′ base e f held, side-lifted-more p f to e base work′ notes₀ notes notes′ held (before .1) n);
+      apart = apart-then work₀ work work′ base (base + stateSize p) (d .apart) (a .apart);
+    }

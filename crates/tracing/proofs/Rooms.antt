@@ -1,5 +1,5 @@
 -- Rank and room of a pixel, as the code computes them: the rank from what its row adds to its column, the room from the rank.
-use Prim.Native.Nat.{ℕ, _+_, _-_, _*_, _/_, _%_, _^_, _≤_, _<_}
+use Prim.Native.Nat.{ℕ, zero, suc, _+_, _-_, _*_, _/_, _%_, _^_, _≤_, _<_}
 use mathlib.Core.Path.{_≡_, refl}
 use mathlib.Core.Bool.{Bool, true, false}
 use native.Mathlib.Omega.{arith}
@@ -7,7 +7,7 @@ use Rattle.basics.proofs.Numbers.{below-four}
 use Rattle.plate.specs.Paths.{span}
 use Rattle.theory.proofs.Ranks.{rankAt, rank, ranked, bit-listed}
 use Rattle.theory.proofs.Sides.{room}
-use Rattle.kernel.specs.Rows.{shift}
+use Rattle.tracing.specs.Headings.{shift}
 
 pub span-small : (W H index : ℕ) → index < 4 → W ≤ 1024 → H ≤ 1024 → span W H (2 ^ index) ≤ 2048
 unfolding span
@@ -33,3 +33,21 @@ module _ (W H p : ℕ) where
 
   pub room-on : (bit : ℕ) (b : Bool) → b ≡ false → room W H bit b p ≡ span W H bit - 1 - rank W H bit p
   room-on bit b e = rw e
+
+-- ---- what a row adds, as the code tells the directions apart
+
+pub shift-east : (index h r : ℕ) → index ≡ 1 → 0 ≡ shift index h r
+unfolding shift
+shift-east index h r e = rw e
+
+pub shift-south-east : (index h r : ℕ) → index ≡ 3 → r ≡ shift index h r
+unfolding shift
+shift-south-east index h r e = rw e
+
+pub shift-north : (index h r : ℕ) → index < 4 → (index ≡ 1 → ⊥) → (index ≡ 3 → ⊥) → h - 1 - r ≡ shift index h r
+unfolding shift
+shift-north zero h r l n m = refl
+shift-north (suc zero) h r l n m = absurd (n refl)
+shift-north (suc (suc zero)) h r l n m = refl
+shift-north (suc (suc (suc zero))) h r l n m = absurd (m refl)
+shift-north (suc (suc (suc (suc index)))) h r l n m = absurd (omega arith)

@@ -1,11 +1,11 @@
 -- The search for the best path through the picked pixel. Row by row the best found so far is not below any term that was looked at; and what the notes
 -- say of a term is what the recursion says, so that the best found is a path by numbers and no path is better. A number of steps that no path can
 -- have there has no walk to x or none from it on, so its terms are 0.
-use Prim.Native.Nat.{ℕ, zero, suc, _+_, _-_, _*_, _^_, _≤_, _<_, min}
-use mathlib.Core.Path.{_≡_, refl, sym, ap, _∙_}
+use Prim.Native.Nat.{ℕ, _+_, _-_, _*_, _^_, _≤_, _<_, min}
+use mathlib.Core.Path.{_≡_, refl, ap, _∙_}
 use mathlib.Core.Bool.{Bool, true, false}
 use mathlib.Core.List.{List}
-use mathlib.Core.Logic.{_⊎_, inl, inr, ⊎-elim}
+use mathlib.Core.Logic.{inl, inr, ⊎-elim}
 use native.Mathlib.Nat.{add-assoc}
 use native.Mathlib.Omega.{arith}
 use lib.ListN.{getD}
@@ -16,7 +16,6 @@ use Rattle.theory.proofs.Ranks.{rank, bit-listed}
 use Rattle.theory.proofs.LevelSets.{reach, reach-none}
 use Rattle.theory.proofs.Sides.{around, room, Side, side}
 use Rattle.theory.proofs.Terms.{term}
-use Rattle.tracing.specs.Following.{Leads}
 use Rattle.tracing.specs.Finding.{Noted, sharedAt, termAt, Possible, FromNotes, RowSearched, Searched, Attained, FoundIn}
 use Rattle.tracing.specs.declared.find.Found.{Found}
 use Rattle.tracing.specs.declared.find.Notes.{Notes}
@@ -126,13 +125,13 @@ module _ (W H m k spare : ℕ) (g : ℕ → ℕ) (x index : ℕ) (listed : index
       (le-or-lt l place)
 
   module _ (work : List ℕ) (n : Notes) (own : ℕ) (is-steps : n .steps ≡ m) (is-gaps : n .gaps ≡ k) (is-own : own ≡ g x)
-      (ends : Noted (λ (q : ℕ). getD work (n .ends + q) 0) W H bit true g k spare m x)
-      (goes : Noted (λ (q : ℕ). getD work (n .goes + q) 0) W H bit false g k spare m x) where
+      (ends : Noted (λ (q : ℕ). getD work (n .ends + q) 0) W H bit true g k m x)
+      (goes : Noted (λ (q : ℕ). getD work (n .goes + q) 0) W H bit false g k m x) where
     term-is : (l i : ℕ) → Possible m spare place l → i ≤ k → termAt work n own l i ≡ min (g x) (term W H bit m k g x l i)
     unfolding sharedAt around
     term-is l i p u =
-        let e = ends .is l i (p .of-path) u (p .ahead) in
-        let f = goes .is (m - l) (k - i) (omega arith) (omega arith) (omega (arith, p .of-path, p .behind)) in
+        let e = ends .is l i (p .of-path) u in
+        let f = goes .is (m - l) (k - i) (omega arith) (omega arith) in
         rw (is-steps, is-gaps, is-own, add-assoc (n .ends) (l * (k + 1)) i, add-assoc (n .goes) ((m - l) * (k + 1)) (k - i), e, f)
 
     found-attained : (new : Found) → FromNotes (termAt work n own) m k spare place index new → Attained W H m k spare g x bit (new .key) (new .before) (new .gaps)

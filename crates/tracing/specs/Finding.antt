@@ -11,18 +11,21 @@ use Rattle.plate.specs.Paths.{span}
 use Rattle.plate.specs.Opening.{levelAt}
 use Rattle.plate.specs.declared.setting.Setting.{Setting}
 use Rattle.theory.proofs.LevelSets.{reach}
-use Rattle.theory.proofs.Sides.{around, room}
+use Rattle.theory.proofs.Sides.{around}
 use Rattle.theory.proofs.Terms.{term}
-use Rattle.kernel.specs.Sets.{keyBy}
+use Rattle.frames.specs.Keys.{keyBy}
 use Rattle.tracing.specs.Following.{Leads}
 use Rattle.tracing.specs.Usable.{usable}
 use Rattle.tracing.specs.declared.find.Found.{Found}
 use Rattle.tracing.specs.declared.find.Notes.{Notes}
 
--- The numbers of x in the plane sets of 0 to m steps, k + 1 for each. Those for which x has too much room are free.
-pub record Noted (numbers : ℕ → ℕ) (W H bit : ℕ) (backwards : Bool) (g : ℕ → ℕ) (k spare m x : ℕ) : Type 0 where
-  pub is : (l j : ℕ) → l ≤ m → j ≤ k → room W H bit backwards x ≤ l + spare →
-      numbers (l * (k + 1) + j) ≡ reach (around backwards W H bit) g l j x
+-- the numbers of a list from a place on
+abbrev pub cells : List ℕ → ℕ → ℕ → ℕ
+cells notes at i = getD notes (at + i) 0
+
+-- the best walks of 0 to m steps from x, k + 1 numbers for each
+pub record Noted (numbers : ℕ → ℕ) (W H bit : ℕ) (backwards : Bool) (g : ℕ → ℕ) (k m x : ℕ) : Type 0 where
+  pub is : (l j : ℕ) → l ≤ m → j ≤ k → numbers (l * (k + 1) + j) ≡ reach (around backwards W H bit) g l j x
 
 -- A path that has i gaps to x and the others from x on, by the notes of the one part and of the other; not above the key of x itself.
 unfoldable pub sharedAt : List ℕ → ℕ → ℕ → ℕ → ℕ → ℕ → ℕ

@@ -1,13 +1,13 @@
 -- A heading is a direction of the table, walked on or back, on a plate of a size. These definitions serve contracts inside the engine only: no
 -- public contract cites them.
-use Prim.Native.Nat.{ℕ, _*_, _^_, _≤_, _<_}
+use Prim.Native.Nat.{ℕ, zero, suc, _-_, _*_, _^_, _≤_, _<_}
 use mathlib.Core.Path.{_≡_}
 use mathlib.Core.Bool.{Bool}
 use mathlib.Core.List.{List}
 use Rattle.plate.specs.Directions.{stepAt}
 use Rattle.plate.specs.Paths.{Reached, Reached.at, Reached.leaves, stepFrom, span}
 use Rattle.theory.proofs.Sides.{around, room}
-use Rattle.kernel.proofs.Landing.{toward}
+use Rattle.frames.proofs.Landing.{toward}
 use Rattle.tracing.specs.declared.heading.Heading.{Heading}
 
 -- the direction's bit
@@ -38,3 +38,10 @@ pub record Known (h : Heading) : Type 0 where
   pub low : h .height ≤ 1024
   pub listed : h .index < 4
   pub is-longest : h .longest ≡ span (h .width) (h .height) (bitOf h)
+
+-- what a row adds to the rank of its pixels, beside their column
+unfoldable pub shift : ℕ → ℕ → ℕ → ℕ
+shift zero h r = h - 1 - r
+shift (suc zero) h r = 0
+shift (suc (suc zero)) h r = h - 1 - r
+shift (suc (suc (suc index))) h r = r

@@ -1,6 +1,9 @@
+pub mod Scans
+pub mod Sights
 pub mod Headings
 pub mod Choosing
 pub mod Following
 pub mod Usable
+pub mod Noting
 pub mod Finding
 pub mod Drawing

@@ -1,20 +1,20 @@
 // The best path through the picked pixel, by numbers.
 ghost use mathlib.Core.Path.{_≡_};
 ghost use mathlib.Core.Bool.{true};
-ghost use Prim.Native.Nat.{ℕ, _+_, _-_, _*_, _^_, _≤_, _<_, min};
+ghost use Prim.Native.Nat.{_+_, _-_, _*_, _^_, _≤_, _<_, min};
 ghost use lib.ListN.{length};
-ghost use Rattle.plate.specs.Paths.{span};
 ghost use Rattle.theory.proofs.Ranks.{rank};
 ghost use Rattle.theory.proofs.Opening.{Levels};
-ghost use Rattle.engine.specs.States.{Sound, keyOf, endsAt};
+ghost use Rattle.tracing.specs.Scans.{Sound, keyOf};
 ghost use Rattle.engine.specs.Finishing.{Accepted};
 ghost use Rattle.tracing.specs.Usable.{usable, FirstUsable};
-ghost use Rattle.tracing.specs.Finding.{sharedAt, termAt, RowSearched, Searched, Attained, FoundIn, FoundAt, BestOf, keysBy};
+ghost use Rattle.tracing.specs.Finding.{sharedAt, termAt, RowSearched, Searched, FoundIn, FoundAt, BestOf};
 use crate::heading::Heading;
 use crate::heading::rank_of;
 use crate::notes::note_side;
+use crate::scan::Scan;
+use crate::scan::scan_of;
 use crate::usable::is_usable;
-use engine::Scan;
 use plate::Setting;
 
 // A path through the picked pixel: the index of its direction, the key at which it counts, and how many
@@ -53,7 +53,7 @@ fn search_row(
     let mut best = found;
     let mut i = 0;
     while i < gaps + 1 {
-        let key = kernel::min2(own, kernel::min2(work[ends + i], work[goes + (gaps - i)]));
+        let key = rows::min2(own, rows::min2(work[ends + i], work[goes + (gaps - i)]));
         if key > best.key {
             best = Found {
                 index: index,
@@ -110,14 +110,17 @@ fn over(a: usize, b: usize) -> usize
     if a < b { 0 } else { a - b }
 }
 
+// Where the notes of the walks on from the pixel begin, after those of the walks back: room for the most
+// steps and gaps that a path can have.
+const GOES: usize = 9216;
+
 // All paths of one direction through the pixel x.
 fn find_in(work: &mut [u16], plate: &[i16], scan: Scan, x: usize, found: Found) -> Found
     requires { ⌜ Sound scan ⌝ }
-    requires { ⌜ (length (now plate) ≡ scan .pixels) × (x < scan .pixels) × (endsAt scan ≤ length (now work)) ⌝ }
+    requires { ⌜ (length (now plate) ≡ scan .width * scan .height) × (x < scan .width * scan .height) × (4 * (scan .gaps + 1) * (scan .width * scan .height) ≤ length (now work)) ⌝ }
     ensures { λ r. ⌜ FoundIn (scan .width) (scan .height) (scan .steps) (scan .gaps) (scan .spare) (keyOf scan (now (plate .entry))) x (scan .index) found r ⌝ }
     ensures { λ _. ⌜ Levels (now (plate .entry)) ⌝ }
 {
-    let size = scan.size;
     let heading = Heading {
         width: scan.width,
         height: scan.height,
@@ -125,17 +128,18 @@ fn find_in(work: &mut [u16], plate: &[i16], scan: Scan, x: usize, found: Found) 
         longest: scan.steps + scan.spare + 1,
         backwards: true,
     };
-    let notes = Notes {
-        ends: size,
-        goes: size + size,
+    let both = Notes {
+        ends: 0,
+        goes: GOES,
         steps: scan.steps,
         gaps: scan.gaps,
     };
-    let own = kernel::key_by(scan.mode, plate[x]);
+    let own = frames::key_by(scan.mode, plate[x]);
     let rank = rank_of(heading, x);
-    note_side(work, plate, scan, false, x, size + size);
-    note_side(work, plate, scan, true, x, size);
-    search(work, notes, own, scan.index, rank, scan.spare, found)
+    let mut notes = [0u16; 18432];
+    note_side(&mut notes, 0, work, plate, scan, true, x);
+    note_side(&mut notes, GOES, work, plate, scan, false, x);
+    search(&notes, both, own, scan.index, rank, scan.spare, found)
 }
 
 // The same by the direction's index, for a usable one.
@@ -155,7 +159,7 @@ fn find_at(
     ensures { λ _. ⌜ Levels (now (plate .entry)) ⌝ }
 {
     let longest = engine::span_of(width, height, index);
-    let scan = engine::scan_of(width, height, setting, index, longest);
+    let scan = scan_of(width, height, setting, index, longest);
     find_in(work, plate, scan, x, found)
 }
 

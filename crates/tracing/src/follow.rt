@@ -1,20 +1,38 @@
-// The path, pixel by pixel.
+// The path on one side of the picked pixel, by the numbers of its walks: from the pixel where a walk that
+// counts ends, step by step nearer to the picked one. A neighbour is taken whose number, with the gaps that
+// are left, is at least the level.
 ghost use mathlib.Core.Path.{_≡_};
-ghost use mathlib.Core.Bool.{true};
-ghost use Prim.Native.Nat.{ℕ, _+_, _-_, _≤_, _<_};
+ghost use mathlib.Core.Bool.{true, false, cond};
+ghost use Prim.Native.Nat.{ℕ, _+_, _-_, _*_, _≤_, _<_, min};
 ghost use lib.ListN.{length, getD};
 ghost use Rattle.theory.proofs.Opening.{Levels};
 ghost use Rattle.theory.proofs.LevelSets.{under};
-ghost use Rattle.engine.specs.States.{Sound, Holds, bitOf, keyOf, cells, endsAt};
-ghost use Rattle.tracing.specs.Following.{Leads, GoesOn, Within, Trail, indexAfter, lowAlong};
-use crate::choose::choose;
-use crate::heading::Heading;
-use engine::Held;
-use engine::Scan;
+ghost use Rattle.tracing.specs.Scans.{Sound, bitOf, keyOf};
+ghost use Rattle.rows.specs.Plans.{Sound as PlanSound, rowsIn, rowAt, stateSize};
+ghost use Rattle.directions.specs.Numbers.{KeptOn, placeKept};
+ghost use Rattle.tracing.specs.Sights.{Seen};
+ghost use Rattle.tracing.specs.Following.{Leads, Within, Trail, indexAfter, lowAlong, storedAt, Picked, RowsFrom, OfSteps, JustBefore, TapTo, StepTo, OnRow, Stands, Kept, HeldFit};
+use crate::onward::follow_any;
+use crate::scan::Scan;
+use crate::sight::Sight;
+use crate::sight::sight_of;
+use rows::Plan;
+use states::Stack;
 
-// Where a walk stands, and how many gaps it has left.
+// The walk that is followed: the key at which it counts, the index of the picked pixel in the path, how many
+// steps it has and how many gaps.
+pub(crate) struct Walk {
+    pub(crate) key: u16,
+    pub(crate) start: usize,
+    pub(crate) steps: usize,
+    pub(crate) gaps: usize,
+}
+
+// A pixel of a state, with the gaps that are left for it and the pixels nearer to the picked one.
 pub(crate) struct Stand {
-    pub(crate) place: usize,
+    pub(crate) state: usize,
+    pub(crate) row: usize,
+    pub(crate) pixel: usize,
     pub(crate) gaps: usize,
 }
 
@@ -26,85 +44,355 @@ fn gaps_after(key: u16, t: u16, left: usize) -> usize
     if key < t { left - 1 } else { left }
 }
 
-// The index of the path's next pixel, or of the one before.
-fn beside(i: usize, backwards: bool) -> usize
-    requires { ⌜ (backwards ≡ true → 1 ≤ i) × (i < 65536) ⌝ }
-    ensures { λ r. ⌜ r ≡ indexAfter backwards i 1 ⌝ }
+// The index of the pixel so many steps from the picked one.
+pub(crate) fn index_after(start: usize, steps: usize, backwards: bool) -> usize
+    requires { ⌜ (backwards ≡ true → steps ≤ start) × (start < 65536) × (steps < 65536) ⌝ }
+    ensures { λ r. ⌜ r ≡ indexAfter backwards start steps ⌝ }
 {
-    if backwards { i - 1 } else { i + 1 }
-}
-
-// The next stand of a walk that counts at t and has m steps to go from there; the numbers are those of
-// the plane set of m steps.
-fn go_on(
-    work: &[u16],
-    plate: &[i16],
-    scan: Scan,
-    backwards: bool,
-    t: u16,
-    m: usize,
-    from: Stand,
-) -> Stand
-    requires { ⌜ Sound scan ⌝ }
-    requires { ⌜ (length (now plate) ≡ scan .pixels) × (scan .size ≤ length (now work)) × (from .gaps ≤ scan .gaps) ⌝ }
-    requires { ⌜ Levels (now plate) ⌝ }
-    requires { ⌜ Holds (cells (now work) 0) (now plate) scan backwards m ⌝ }
-    requires { ⌜ Leads (scan .width) (scan .height) (bitOf scan) backwards (keyOf scan (now plate)) t (scan .spare) (m + 1) (from .gaps) (from .place) ⌝ }
-    ensures { λ r. ⌜ GoesOn (scan .width) (scan .height) (bitOf scan) backwards (keyOf scan (now (plate .entry))) t (scan .spare) m from r ⌝ }
-{
-    let heading = Heading {
-        width: scan.width,
-        height: scan.height,
-        index: scan.index,
-        longest: scan.steps + scan.spare + 1,
-        backwards: backwards,
-    };
-    let p = from.place;
-    let left = gaps_after(kernel::key_by(scan.mode, plate[p]), t, from.gaps);
-    let place = choose(work, left * scan.pixels, heading, p, m, t);
-    Stand {
-        place: place,
-        gaps: left,
+    if backwards {
+        start - steps
+    } else {
+        start + steps
     }
 }
 
-// Writes the path from the pixel at an index on, or back, where a walk of so many steps with so many
-// gaps counts at t.
+// The place of the pixel where a stand is.
+fn place_of(sight: Sight, stand: Stand) -> usize
+    requires { ⌜ (KeptOn (sight .frame) (sight .plan .ranked)) × (PlanSound (sight .plan)) × (OnRow (sight .plan) stand) ⌝ }
+    requires { ⌜ (sight .plan .lines ≡ sight .frame .lines) × (sight .plan .across ≡ sight .frame .across) ⌝ }
+    ensures { λ r. ⌜ r ≡ placeKept (sight .frame) (sight .plan .ranked) (rowAt (sight .plan) (stand .state) (stand .row) + stand .pixel) ⌝ }
+{
+    let row = rows::row_of(sight.plan, stand.state, stand.row);
+    directions::place_kept(sight.frame, sight.plan.ranked, row.at + stand.pixel)
+}
+
+// The first of n numbers that is at least t, or n where none is.
+fn first_of(work: &[u16], at: usize, n: usize, t: u16) -> usize
+    requires { ⌜ at + n ≤ length (now work) ⌝ }
+    ensures { λ r. ⌜ (r ≤ n) × (r < n → t ≤ getD (now (work .entry)) (at + r) 0) × ((k : ℕ) → k < r → getD (now (work .entry)) (at + k) 0 < t) ⌝ }
+{
+    let mut x = 0;
+    while x < n {
+        if work[at + x] >= t {
+            return x;
+        }
+        x += 1;
+    }
+    n
+}
+
+// Where a number of the rows from `first` below `past` of a state is at least t: the state begins at `base`.
+fn find_among(
+    work: &[u16],
+    base: usize,
+    plan: Plan,
+    state: usize,
+    first: usize,
+    past: usize,
+    gaps: usize,
+    t: u16,
+) -> Stand
+    requires { ⌜ PlanSound plan ⌝ }
+    requires { ⌜ (state < 65536) × (first ≤ past) × (past ≤ rowsIn plan state) × (gaps < plan .planes) × (base + stateSize plan ≤ length (now work)) ⌝ }
+    ensures { λ r. ⌜ Picked (RowsFrom state first past) (storedAt (now (work .entry)) base plan) plan gaps t r ⌝ }
+{
+    let mut row = first;
+    while row < past {
+        let r = rows::row_of(plan, state, row);
+        let at = base + row * (plan.planes * plan.across) + gaps * plan.across + r.lo;
+        let x = first_of(work, at, r.hi - r.lo, t);
+        if x < r.hi - r.lo {
+            return Stand {
+                state: state,
+                row: row,
+                pixel: r.lo + x,
+                gaps: gaps,
+            };
+        }
+        row += 1;
+    }
+    Stand {
+        state: state,
+        row: row,
+        pixel: plan.across,
+        gaps: gaps,
+    }
+}
+
+// Where a walk of so many steps that counts at t ends: the first pixel of the state, which begins at `base`,
+// whose number is at least t. On ranks every row is of so many steps; on lines one is.
+fn find_end(work: &[u16], base: usize, plan: Plan, steps: usize, gaps: usize, t: u16) -> Stand
+    requires { ⌜ PlanSound plan ⌝ }
+    requires { ⌜ (steps < 65536) × (plan .ranked ≡ false → steps < rowsIn plan 0) × (gaps < plan .planes) × (base + stateSize plan ≤ length (now work)) ⌝ }
+    ensures { λ r. ⌜ Picked (OfSteps plan steps) (storedAt (now (work .entry)) base plan) plan gaps t r ⌝ }
+{
+    if plan.ranked {
+        let rows = rows::rows_in(plan, steps);
+        return find_among(work, base, plan, steps, 0, rows, gaps, t);
+    }
+    find_among(work, base, plan, 0, steps, steps + 1, gaps, t)
+}
+
+// How many states back the row is in which a step finds its number, and how many rows.
+fn states_back(y: usize) -> usize
+    ensures { λ r. ⌜ r ≡ min 1 y ⌝ }
+{
+    if y > 0 { 1 } else { 0 }
+}
+
+fn rows_back(y: usize) -> usize
+    ensures { λ r. ⌜ r ≡ min 1 (2 - y) ⌝ }
+{
+    if y < 2 { 1 } else { 0 }
+}
+
+// The pixel before `past` of a row of the state that begins at `base`, if the row has it and its number is at least
+// t; else the pixel past the last.
+fn looked(
+    work: &[u16],
+    base: usize,
+    plan: Plan,
+    state: usize,
+    row: usize,
+    past: usize,
+    gaps: usize,
+    t: u16,
+) -> Stand
+    requires { ⌜ PlanSound plan ⌝ }
+    requires { ⌜ (state < 65536) × (row < rowsIn plan state) × (gaps < plan .planes) × (base + stateSize plan ≤ length (now work)) ⌝ }
+    ensures { λ r. ⌜ Picked (JustBefore state row past) (storedAt (now (work .entry)) base plan) plan gaps t r ⌝ }
+{
+    let none = Stand {
+        state: state,
+        row: row,
+        pixel: plan.across,
+        gaps: gaps,
+    };
+    let r = rows::row_of(plan, state, row);
+    if past <= r.lo {
+        return none;
+    }
+    if past > r.hi {
+        return none;
+    }
+    let at = base + row * (plan.planes * plan.across) + gaps * plan.across;
+    if work[at + (past - 1)] < t {
+        return none;
+    }
+    Stand {
+        state: state,
+        row: row,
+        pixel: past - 1,
+        gaps: gaps,
+    }
+}
+
+// Where the step that finds its number in row y, x pixels on less one, leads from a stand, if the number there
+// is at least t; else the pixel past the last. The state of that row begins at `base`.
+fn tapped(work: &[u16], base: usize, plan: Plan, stand: Stand, y: usize, x: usize, t: u16) -> Stand
+    requires { ⌜ (PlanSound plan) × (OnRow plan stand) ⌝ }
+    requires { ⌜ (x ≤ 2) × (base + stateSize plan ≤ length (now work)) ⌝ }
+    ensures { λ r. ⌜ Picked (TapTo stand y x) (storedAt (now (work .entry)) base plan) plan (stand .gaps) t r ⌝ }
+{
+    let none = Stand {
+        state: 0,
+        row: 0,
+        pixel: plan.across,
+        gaps: stand.gaps,
+    };
+    let older = states_back(y);
+    let upper = rows_back(y);
+    if stand.state < older {
+        return none;
+    }
+    if stand.row < upper {
+        return none;
+    }
+    looked(
+        work,
+        base,
+        plan,
+        stand.state - older,
+        stand.row - upper,
+        stand.pixel + x,
+        stand.gaps,
+        t,
+    )
+}
+
+// One step nearer to the picked pixel, by the steps of the table: to the first pixel whose number is at least t.
+fn nearer(work: &[u16], base: usize, plan: Plan, stand: Stand, t: u16) -> Stand
+    requires { ⌜ (PlanSound plan) × (OnRow plan stand) × (base + stateSize plan ≤ length (now work)) ⌝ }
+    ensures { λ r. ⌜ Picked (StepTo plan stand) (storedAt (now (work .entry)) base plan) plan (stand .gaps) t r ⌝ }
+{
+    let first = tapped(work, base, plan, stand, plan.reach.y0, plan.reach.x0, t);
+    if first.pixel < plan.across {
+        return first;
+    }
+    let second = tapped(work, base, plan, stand, plan.reach.y1, plan.reach.x1, t);
+    if second.pixel < plan.across {
+        return second;
+    }
+    tapped(work, base, plan, stand, plan.reach.y2, plan.reach.x2, t)
+}
+
+// How many states find room, up to 64.
+fn places_in(room: usize, size: usize) -> usize
+    requires { ⌜ (1 ≤ size) × (size ≤ room) ⌝ }
+    ensures { λ r. ⌜ (1 ≤ r) × (r ≤ 64) × (r * size ≤ room) ⌝ }
+{
+    let all = room / size;
+    if all > 64 {
+        return 64;
+    }
+    all
+}
+
+// How many states are made with the one that is wanted, which is the last: on ranks so many, else one.
+fn wanted(plan: Plan, states: usize) -> usize
+    ensures { λ r. ⌜ r ≡ cond (plan .ranked) states 1 ⌝ }
+{
+    if plan.ranked { states } else { 1 }
+}
+
+// The path from a stand at its far end to the picked pixel, a step nearer at each turn.
+fn walk_in(
+    path: &mut [usize],
+    work: &mut [u16],
+    marks: &mut [usize],
+    held: &mut [u16],
+    below: &mut [u16],
+    plate: &[i16],
+    scan: Scan,
+    backwards: bool,
+    walk: Walk,
+    sight: Sight,
+    made: Stack,
+    end: Stand,
+)
+    requires { ⌜ (Sound scan) × (length (now plate) ≡ scan .width * scan .height) × (Levels (now plate)) × (1 ≤ walk .key) ⌝ }
+    requires { ⌜ (length (now path) ≤ 65536) × (walk .start < length (now path)) × (walk .steps ≤ scan .steps) ⌝ }
+    requires { ⌜ Within backwards (length (now path)) (walk .start) (walk .steps) ⌝ }
+    requires { ⌜ (getD (now path) (walk .start) 0 < scan .width * scan .height) × (Seen scan backwards (getD (now path) (walk .start) 0) sight) ⌝ }
+    requires { ⌜ Kept scan backwards (now plate) (getD (now path) (walk .start) 0) sight (now work) (now marks) made ⌝ }
+    requires { ⌜ (HeldFit (sight .plan) (length (now held)) (length (now below))) × (end .gaps ≡ walk .gaps) ⌝ }
+    requires { ⌜ Stands scan backwards (now plate) (getD (now path) (walk .start) 0) sight (walk .key) (walk .steps) end ⌝ }
+    ensures { λ _. ⌜ Trail (scan .width) (scan .height) (bitOf scan) backwards (now (path .entry)) (now (path .exit)) (walk .start) (walk .steps) ⌝ }
+    ensures { λ _. ⌜ lowAlong backwards (keyOf scan (now (plate .entry))) (walk .key) (now (path .exit)) (walk .start) (walk .steps + 1) ≤ walk .gaps ⌝ }
+{
+    let plan = sight.plan;
+    let mut stack = made;
+    let mut stand = end;
+    let mut n = walk.steps;
+    while n > 0 {
+        let place = place_of(sight, stand);
+        let i = index_after(walk.start, n, backwards);
+        path[i] = place;
+        let left = gaps_after(
+            frames::key_by(scan.mode, plate[place]),
+            walk.key,
+            stand.gaps,
+        );
+        let here = Stand {
+            state: stand.state,
+            row: stand.row,
+            pixel: stand.pixel,
+            gaps: left,
+        };
+        stack = states::fetch(
+            work,
+            marks,
+            held,
+            below,
+            plan,
+            stack,
+            wanted(plan, stand.state),
+        );
+        stand = nearer(work, states::top_of(plan, stack), plan, here, walk.key);
+        n -= 1;
+    }
+}
+
+// The path of a walk that counts at a key above the lowest.
+fn follow_counted(
+    path: &mut [usize],
+    work: &mut [u16],
+    plate: &[i16],
+    scan: Scan,
+    backwards: bool,
+    walk: Walk,
+)
+    requires { ⌜ (Sound scan) × (1 ≤ walk .key) ⌝ }
+    requires { ⌜ (length (now plate) ≡ scan .width * scan .height) × (4 * (scan .gaps + 1) * (scan .width * scan .height) ≤ length (now work)) × (walk .steps ≤ scan .steps) × (walk .gaps ≤ scan .gaps) ⌝ }
+    requires { ⌜ Levels (now plate) ⌝ }
+    requires { ⌜ (length (now path) ≤ 65536) × (walk .start < length (now path)) ⌝ }
+    requires { ⌜ Within backwards (length (now path)) (walk .start) (walk .steps) ⌝ }
+    requires { ⌜ Leads (scan .width) (scan .height) (bitOf scan) backwards (keyOf scan (now plate)) (walk .key) (scan .spare) (walk .steps) (walk .gaps) (getD (now path) (walk .start) 0) ⌝ }
+    ensures { λ _. ⌜ Trail (scan .width) (scan .height) (bitOf scan) backwards (now (path .entry)) (now (path .exit)) (walk .start) (walk .steps) ⌝ }
+    ensures { λ _. ⌜ lowAlong backwards (keyOf scan (now (plate .entry))) (walk .key) (now (path .exit)) (walk .start) (walk .steps + 1) ≤ walk .gaps ⌝ }
+{
+    let mut held = [0u16; 18612];
+    let mut below = [0u16; 1032];
+    let mut marks = [0usize; 64];
+    let start = walk.start;
+    let sight = sight_of(scan, backwards, path[start]);
+    let plan = sight.plan;
+    directions::fill_keys(work, plate, sight.frame, plan.ranked, scan.mode);
+    let base = plan.lines * plan.across;
+    let empty = Stack {
+        base: base,
+        places: places_in(work.len() - base, plan.rows * (plan.planes * plan.across)),
+        depth: 0,
+    };
+    let stack = states::fetch(
+        work,
+        &mut marks,
+        &mut held,
+        &mut below,
+        plan,
+        empty,
+        wanted(plan, walk.steps + 1),
+    );
+    let top = states::top_of(plan, stack);
+    let end = find_end(work, top, plan, walk.steps, walk.gaps, walk.key);
+    walk_in(
+        path,
+        work,
+        &mut marks,
+        &mut held,
+        &mut below,
+        plate,
+        scan,
+        backwards,
+        walk,
+        sight,
+        stack,
+        end,
+    );
+}
+
+// Writes the path from the picked pixel on, or back, where a walk of so many steps with so many gaps counts.
+// At the lowest key every walk does.
 pub(crate) fn follow(
     path: &mut [usize],
     work: &mut [u16],
     plate: &[i16],
     scan: Scan,
     backwards: bool,
-    t: u16,
-    start: usize,
-    steps: usize,
-    gaps: usize,
+    walk: Walk,
 )
     requires { ⌜ Sound scan ⌝ }
-    requires { ⌜ (length (now plate) ≡ scan .pixels) × (endsAt scan ≤ length (now work)) × (steps ≤ scan .steps) × (gaps ≤ scan .gaps) ⌝ }
+    requires { ⌜ (length (now plate) ≡ scan .width * scan .height) × (4 * (scan .gaps + 1) * (scan .width * scan .height) ≤ length (now work)) × (walk .steps ≤ scan .steps) × (walk .gaps ≤ scan .gaps) ⌝ }
     requires { ⌜ Levels (now plate) ⌝ }
-    requires { ⌜ (length (now path) ≤ 65536) × (start < length (now path)) ⌝ }
-    requires { ⌜ Within backwards (length (now path)) start steps ⌝ }
-    requires { ⌜ Leads (scan .width) (scan .height) (bitOf scan) backwards (keyOf scan (now plate)) t (scan .spare) steps gaps (getD (now path) start 0) ⌝ }
-    ensures { λ _. ⌜ Trail (scan .width) (scan .height) (bitOf scan) backwards (now (path .entry)) (now (path .exit)) start steps ⌝ }
-    ensures { λ _. ⌜ lowAlong backwards (keyOf scan (now (plate .entry))) t (now (path .exit)) start (steps + 1) ≤ gaps ⌝ }
+    requires { ⌜ (length (now path) ≤ 65536) × (walk .start < length (now path)) ⌝ }
+    requires { ⌜ Within backwards (length (now path)) (walk .start) (walk .steps) ⌝ }
+    requires { ⌜ Leads (scan .width) (scan .height) (bitOf scan) backwards (keyOf scan (now plate)) (walk .key) (scan .spare) (walk .steps) (walk .gaps) (getD (now path) (walk .start) 0) ⌝ }
+    ensures { λ _. ⌜ Trail (scan .width) (scan .height) (bitOf scan) backwards (now (path .entry)) (now (path .exit)) (walk .start) (walk .steps) ⌝ }
+    ensures { λ _. ⌜ lowAlong backwards (keyOf scan (now (plate .entry))) (walk .key) (now (path .exit)) (walk .start) (walk .steps + 1) ≤ walk .gaps ⌝ }
 {
-    let mut held = Held {
-        outer: scan.steps + 1,
-        inner: scan.steps + 1,
-    };
-    let mut stand = Stand {
-        place: path[start],
-        gaps: gaps,
-    };
-    let mut i = start;
-    let mut m = steps;
-    while m > 0 {
-        m -= 1;
-        held = engine::fetch(work, plate, scan, backwards, held, m);
-        stand = go_on(work, plate, scan, backwards, t, m, stand);
-        i = beside(i, backwards);
-        path[i] = stand.place;
+    if walk.key == 0 {
+        follow_any(path, scan, backwards, walk.start, walk.steps);
+        return;
     }
+    follow_counted(path, work, plate, scan, backwards, walk);
 }

@@ -1,7 +1,7 @@
 ghost use mathlib.Core.Path.{_≡_};
 ghost use Prim.Native.Nat.{_*_, _^_, _<_};
 ghost use Rattle.theory.proofs.Ranks.{rank};
-ghost use Rattle.tracing.specs.Headings.{Known, bitOf, roomAt, reachedAt, placeOr};
+ghost use Rattle.tracing.specs.Headings.{shift, Known, bitOf, roomAt, reachedAt, placeOr};
 
 // A direction, walked on or back, on a plate of this size.
 pub(crate) struct Heading {
@@ -14,13 +14,27 @@ pub(crate) struct Heading {
     pub(crate) backwards: bool,
 }
 
+// What a row adds to the rank of its pixels, beside their column.
+fn shift_of(index: usize, height: usize, row: usize) -> usize
+    requires { ⌜ (index < 4) × (row < height) ⌝ }
+    ensures { λ s. ⌜ s ≡ shift index height row ⌝ }
+{
+    if index == 1 {
+        return 0;
+    }
+    if index == 3 {
+        return row;
+    }
+    height - 1 - row
+}
+
 // How many lines the pixel at p stands from where the direction's longest paths start.
 pub(crate) fn rank_of(heading: Heading, p: usize) -> usize
     requires { ⌜ Known heading ⌝ }
     requires { ⌜ p < heading .width * heading .height ⌝ }
     ensures { λ r. ⌜ r ≡ rank (heading .width) (heading .height) (bitOf heading) p ⌝ }
 {
-    let shift = kernel::shift_of(heading.index, heading.height, p / heading.width);
+    let shift = shift_of(heading.index, heading.height, p / heading.width);
     if heading.index == 0 {
         return shift;
     }
@@ -48,8 +62,8 @@ pub(crate) fn neighbour(heading: Heading, number: usize, p: usize) -> usize
 {
     let pixels = heading.width * heading.height;
     // column and row plus one
-    let x = p % heading.width + kernel::columns_on(heading.index, number, heading.backwards);
-    let y = p / heading.width + kernel::rows_on(heading.index, number, heading.backwards);
+    let x = p % heading.width + frames::columns_on(heading.index, number, heading.backwards);
+    let y = p / heading.width + frames::rows_on(heading.index, number, heading.backwards);
     if x == 0 {
         return pixels;
     }

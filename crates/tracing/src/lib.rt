@@ -1,23 +1,26 @@
 // The trace: one path through a picked pixel, as section 4 of document 01 has it.
 //
-// By the span law the sizes alone tell whether there is a path. The plane sets of the filter then give,
-// at the picked pixel alone, the best level and how a path of that level shares its steps and gaps
-// there; and the path is followed from that pixel on and back, each next pixel one whose number in the
-// plane set of the steps to go is at least the level. It takes 2 * length steps of a plane set for each
-// usable direction, and some 3 * length^(4/3) to follow the path.
+// By the span law the sizes alone tell whether there is a path. The filter's states, with walks that start
+// at the picked pixel alone (sight.rt), then give for every number of steps and gaps the best walk on from
+// it and back (notes.rt); the two halves that fit best tell the level (find.rt). Each half of the path is
+// followed from its far end to the pixel (follow.rt), each next pixel one whose number is at least the
+// level. On a straight direction one state of a side holds all of its walks; on a diagonal one they are
+// made again from a stack of states.
 ghost use mathlib.Core.Path.{_≡_};
 ghost use lib.ListN.{length};
 ghost use Rattle.plate.specs.Refusals.{traceVerdict};
 ghost use Rattle.plate.specs.Answers.{tracedLevel, traceAfter};
 ghost use Rattle.theory.specs.Trace.{Shows};
 
-mod choose;
 mod draw;
 mod find;
 mod follow;
 mod heading;
 mod notes;
+mod onward;
+mod scan;
 mod shown;
+mod sight;
 mod usable;
 
 use crate::shown::show;

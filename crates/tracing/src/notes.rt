@@ -1,53 +1,106 @@
-// The numbers of one pixel, noted while a plane set goes on.
+// The best walks from the picked pixel, noted for every number of steps and of gaps: the best number of any
+// pixel that the walks lead to.
 ghost use mathlib.Core.Path.{_≡_};
 ghost use Prim.Native.Nat.{ℕ, _+_, _-_, _*_, _≤_, _<_};
 ghost use lib.ListN.{length, getD};
 ghost use Rattle.theory.proofs.Opening.{Levels};
-ghost use Rattle.kernel.specs.Runs.{Between};
-ghost use Rattle.engine.specs.States.{Sound, Apart, bitOf, keyOf, cells};
-ghost use Rattle.tracing.specs.Finding.{Noted};
-use engine::Scan;
+ghost use Rattle.rows.specs.Runs.{Apart};
+ghost use Rattle.rows.specs.Plans.{rowsIn, rowSize, stateSize};
+ghost use Rattle.rows.specs.Plans.{Sound as SoundPlan};
+ghost use Rattle.directions.specs.Numbers.{stepsAt};
+ghost use Rattle.tracing.specs.Scans.{Sound, bitOf, keyOf};
+ghost use Rattle.tracing.specs.Noting.{Highest, Lifted, FromRow, FromState, NotesFit, rowCells, stateCells};
+ghost use Rattle.tracing.specs.Finding.{Noted, cells};
+use crate::scan::Scan;
+use crate::sight::sight_of;
+use rows::Plan;
+use rows::Row;
 
-// The number of the pixel x in each of the planes, `pixels` numbers apart, comes to `to` and the places
-// after it.
-fn note(work: &mut [u16], pixels: usize, planes: usize, x: usize, to: usize)
-    requires { ⌜ (x < pixels) × (planes * pixels ≤ to) × (to + planes ≤ length (now work)) ⌝ }
-    ensures { λ _. ⌜ Between (λ (q : ℕ). getD (now (work .entry)) ((q - to) * pixels + x) 0) (now (work .entry)) (now (work .exit)) to (to + planes) ⌝ }
+// The highest of n numbers, or v where that is higher.
+fn highest(work: &[u16], at: usize, n: usize, v: u16) -> u16
+    requires { ⌜ at + n ≤ length (now work) ⌝ }
+    ensures { λ r. ⌜ Highest (λ (x : ℕ). getD (now (work .entry)) x 0) at (at + n) v r ⌝ }
 {
+    let mut best = v;
+    let mut x = 0;
+    while x < n {
+        best = rows::max2(best, work[at + x]);
+        x += 1;
+    }
+    best
+}
+
+// The notes at `to` and after it rise to the row of a state that begins at `at`, plane by plane.
+fn note_row(notes: &mut [u16], to: usize, work: &[u16], at: usize, plan: Plan, row: Row)
+    requires { ⌜ (row .lo ≤ row .hi) × (row .hi ≤ plan .across) × (plan .across ≤ 1024) × (plan .planes ≤ 9) ⌝ }
+    requires { ⌜ (at ≤ 16777216) × (at + rowSize plan ≤ length (now work)) × (to + plan .planes ≤ length (now notes)) ⌝ }
+    ensures { λ _. ⌜ Lifted (FromRow (rowCells (now (work .entry)) at (plan .across)) (row .lo) (row .hi) to (plan .planes)) (now (notes .entry)) (now (notes .exit)) ⌝ }
+{
+    let n = row.hi - row.lo;
+    let mut from = at + row.lo;
     let mut j = 0;
-    let mut from = x;
-    while j < planes {
-        work[to + j] = work[from];
+    while j < plan.planes {
+        notes[to + j] = highest(work, from, n, notes[to + j]);
         j += 1;
-        from += pixels;
+        from += plan.across;
     }
 }
 
-// A side's set from none to all steps of a path, at the beginning of the work buffer, and at each step
-// the numbers of x, which come to `at` and the places after it.
+// How many steps the walks of row m of state e have.
+fn steps_in(plan: Plan, e: usize, m: usize) -> usize
+    ensures { λ r. ⌜ r ≡ stepsAt plan e m ⌝ }
+{
+    if plan.ranked { e } else { m }
+}
+
+// The notes rise to all rows of state e, which stands at `base`: each row to the notes of its number of
+// steps.
+fn note_state(notes: &mut [u16], to: usize, work: &[u16], base: usize, plan: Plan, e: usize)
+    requires { ⌜ SoundPlan plan ⌝ }
+    requires { ⌜ (e < 65536) × (base ≤ 65536) × (base + stateSize plan ≤ length (now work)) × (NotesFit plan e to (length (now notes))) ⌝ }
+    ensures { λ _. ⌜ Lifted (FromState plan (stateCells (now (work .entry)) base plan) to e (rowsIn plan e)) (now (notes .entry)) (now (notes .exit)) ⌝ }
+{
+    let rows = rows::rows_in(plan, e);
+    let mut at = base;
+    let mut m = 0;
+    while m < rows {
+        let steps = steps_in(plan, e, m);
+        let row = rows::row_of(plan, e, m);
+        note_row(notes, to + steps * plan.planes, work, at, plan, row);
+        at += plan.planes * plan.across;
+        m += 1;
+    }
+}
+
+// The notes of one side, from `to` on: for each number of steps up to those of a path the numbers of all
+// gaps; 0 where there is no such walk.
 pub(crate) fn note_side(
+    notes: &mut [u16],
+    to: usize,
     work: &mut [u16],
     plate: &[i16],
     scan: Scan,
     backwards: bool,
     x: usize,
-    at: usize,
 )
     requires { ⌜ Sound scan ⌝ }
-    requires { ⌜ (length (now plate) ≡ scan .pixels) × (x < scan .pixels) × (scan .size ≤ at) × (at + scan .size ≤ length (now work)) ⌝ }
-    ensures { λ _. ⌜ Noted (cells (now (work .exit)) at) (scan .width) (scan .height) (bitOf scan) backwards (keyOf scan (now (plate .entry))) (scan .gaps) (scan .spare) (scan .steps) x ⌝ }
-    ensures { λ _. ⌜ Apart (now (work .entry)) (now (work .exit)) 0 (at + scan .size) ⌝ }
+    requires { ⌜ (length (now plate) ≡ scan .width * scan .height) × (x < scan .width * scan .height) × (4 * (scan .gaps + 1) * (scan .width * scan .height) ≤ length (now work)) ⌝ }
+    requires { ⌜ (to + (scan .steps + 1) * (scan .gaps + 1) ≤ length (now notes)) × (length (now notes) < 65536) ⌝ }
+    ensures { λ _. ⌜ Noted (cells (now (notes .exit)) to) (scan .width) (scan .height) (bitOf scan) backwards (keyOf scan (now (plate .entry))) (scan .gaps) (scan .steps) x ⌝ }
+    ensures { λ _. ⌜ Apart (now (notes .entry)) (now (notes .exit)) to (to + (scan .steps + 1) * (scan .gaps + 1)) ⌝ }
     ensures { λ _. ⌜ Levels (now (plate .entry)) ⌝ }
 {
-    let planes = scan.gaps + 1;
-    engine::start_at(work, plate, scan, 0);
-    note(work, scan.pixels, planes, x, at);
-    let mut m = 0;
-    let mut to = at;
-    while m < scan.steps {
-        engine::run_at(work, plate, scan, backwards, 0, m, m + 1);
-        m += 1;
-        to += planes;
-        note(work, scan.pixels, planes, x, to);
+    let mut held = [0u16; 18612];
+    let mut below = [0u16; 1032];
+    let sight = sight_of(scan, backwards, x);
+    let plan = sight.plan;
+    let base = plan.lines * plan.across;
+    directions::fill_keys(work, plate, sight.frame, plan.ranked, scan.mode);
+    rows::fill_run(notes, to, (scan.steps + 1) * (scan.gaps + 1), 0);
+    let mut e = 0;
+    while e < sight.states {
+        states::advance(work, &mut held, &mut below, plan, e, base, base);
+        note_state(notes, to, work, base, plan, e);
+        e += 1;
     }
 }

@@ -12,6 +12,7 @@ ghost use Rattle.theory.proofs.Mirror.{turned};
 ghost use Rattle.tracing.specs.Usable.{FirstUsable};
 use crate::draw::draw;
 use crate::find::find;
+use crate::scan::scan_of;
 use crate::usable::bit_of;
 use plate::Setting;
 use plate::Traced;
@@ -46,7 +47,7 @@ pub(crate) fn show(
 {
     let found = find(work, plate, width, height, setting, first, x);
     let longest = engine::span_of(width, height, found.index);
-    let scan = engine::scan_of(width, height, setting, found.index, longest);
+    let scan = scan_of(width, height, setting, found.index, longest);
     draw(path, work, plate, scan, found, x);
     let direction = bit_of(found.index);
     let level = level_by(setting, found.key);

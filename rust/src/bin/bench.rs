@@ -44,7 +44,7 @@ fn time<T>(mut call: impl FnMut() -> T) -> (f64, T) {
 #[cfg(engine)]
 fn engine(plate: &Plate, setting: Setting) -> Option<(f64, f64, Plate)> {
     use diilvak::engine;
-    let at = plate.pixels() / 2 + plate.width() / 2;
+    let at = plate.height() / 2 * plate.width() + plate.width() / 2;
     let (filter, filtered) = time(|| engine::filter(plate, setting).expect("accepted"));
     let (trace, shown) = time(|| engine::trace(plate, setting, at).expect("accepted"));
     assert_eq!(shown.level, filtered.levels()[at]);
@@ -64,6 +64,45 @@ fn visits(plate: &Plate, setting: Setting) -> usize {
     2 * setting.chosen().count() * thresholds.len() * plate.pixels() * (setting.gaps + 1)
 }
 
+/// How many numbers the filter's recursion has on both sides: for every chosen direction, gap count and
+/// pixel the places that the pixel can have in a whole path. What is made again is not counted.
+fn numbers(plate: &Plate, setting: Setting) -> usize {
+    let (width, height) = (plate.width(), plate.height());
+    let places = |rank: usize, span: usize| {
+        let (spare, last) = (span - setting.length, setting.length - 1);
+        rank.min(last) + 1 - rank.saturating_sub(spare)
+    };
+    let straight = |lines: usize, across: usize| match setting.length <= lines {
+        true => across * (0..lines).map(|rank| places(rank, lines)).sum::<usize>(),
+        false => 0,
+    };
+    let diagonal = || {
+        let span = width + height - 1;
+        let pixels = (0..height).flat_map(|row| (0..width).map(move |column| row + column));
+        match setting.length <= span {
+            true => pixels.map(|rank| places(rank, span)).sum(),
+            false => 0,
+        }
+    };
+    let directions = [straight(height, width), straight(width, height), diagonal(), diagonal()];
+    let chosen = (0..4).filter(|index| setting.directions >> index & 1 == 1);
+    2 * (setting.gaps + 1) * chosen.map(|index| directions[index]).sum::<usize>()
+}
+
+/// The filter on plates that are awkward beside ones that are not: nanoseconds a pixel.
+fn awkward() {
+    let rows = [(1024, 8, 5, 2), (1024, 7, 5, 2), (1024, 1, 100, 2), (1, 1024, 100, 2)];
+    println!("\n| plate | L | k | filter, nanoseconds a pixel |");
+    println!("|---|---|---|---|");
+    for (width, height, length, gaps) in rows {
+        let plate = plate(&mut Random(256), Kind::Wall, width, height);
+        let setting = Setting::new(length, gaps, 15, 0);
+        let filter = engine(&plate, setting).map(|times| times.0 * 1e9 / plate.pixels() as f64);
+        let shown = filter.map_or("–".to_string(), |t| format!("{t:.0}"));
+        println!("| {width} × {height} | {length} | {gaps} | {shown} |");
+    }
+}
+
 fn main() {
     let all = std::env::args().any(|word| word == "all");
     let rows = [
@@ -71,6 +110,8 @@ fn main() {
         (Kind::Wall, 256, 256, 30, 2),
         (Kind::Wall, 256, 256, 100, 2),
         (Kind::Wall, 256, 256, 200, 8),
+        (Kind::Wall, 256, 256, 400, 2),
+        (Kind::Wall, 1024, 64, 500, 2),
         (Kind::Wall, 1024, 64, 1000, 2),
         (Kind::Flat, 256, 256, 30, 2),
     ];
@@ -80,9 +121,10 @@ fn main() {
         _ => "–".to_string(),
     };
     println!("Four directions, opening. Both other methods make a whole filtered plate.");
-    println!("– is not run: the engine is not built, or one scan a level would take minutes.\n");
-    println!("| plate | L | k | filter | trace | queue | queue / filter | queue / trace | one scan a level | scans / filter |");
-    println!("|---|---|---|---|---|---|---|---|---|---|");
+    println!("– is not run: the engine is not built, or one scan a level would take minutes.");
+    println!("Numbers are those of the filter's recursion, each counted once, a second.\n");
+    println!("| plate | L | k | filter | trace | queue | queue / filter | trace / filter | numbers | one scan a level | scans / filter |");
+    println!("|---|---|---|---|---|---|---|---|---|---|---|");
     for (kind, width, height, length, gaps) in rows {
         let plate = plate(&mut Random(256), kind, width, height);
         let setting = Setting::new(length, gaps, 15, 0);
@@ -97,16 +139,20 @@ fn main() {
             scans
         });
         let (filter, trace) = (engine.map(|times| times.0), engine.map(|times| times.1));
+        let rate = filter.map_or("–".to_string(), |t| {
+            format!("{:.1} · 10⁹", numbers(&plate, setting) as f64 / t / 1e9)
+        });
         let looks = if kind == Kind::Flat { "flat" } else { "noise and curves" };
         println!(
-            "| {width} × {height}, {looks} | {length} | {gaps} | {} | {} | {} | {} | {} | {} | {} |",
+            "| {width} × {height}, {looks} | {length} | {gaps} | {} | {} | {} | {} | {} | {rate} | {} | {} |",
             seconds(filter),
             seconds(trace),
             seconds(Some(queue)),
             ratio(Some(queue), filter),
-            ratio(Some(queue), trace),
+            ratio(trace, filter),
             seconds(scans),
             ratio(scans, filter),
         );
     }
+    awkward();
 }

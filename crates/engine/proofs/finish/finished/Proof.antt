@@ -1,12 +1,10 @@
 -- `finished` is the lower of the two keys as a level, mirrored back in mode 1.
 use Prim.Native.Nat.{min}
 use mathlib.Core.Path.{_≡_, ap, _∙_}
-use borrow.Author.Tests.{eq-eqb, ne-eqb}
 use mir.Syntax.{w16}
 use mir.ValLaws.{toZ-ofZ}
 use Rattle.plate.specs.Levels.{key}
-use Rattle.kernel.specs.Sets.{keyBy}
-use Rattle.engine.specs.Finishing.{levelBy}
+use Rattle.frames.specs.Keys.{keyBy, levelBy}
 use borrow.Author.Needs.{needs}
 use Rattle.engine.proofs.finish.finished.Statement.{statement}
 use Rattle.engine.proofs.finish.finished.Tie as tie
@@ -20,8 +18,8 @@ key-of-requires c κs = search needs
 min2-requires : tie.Need-min2-requires
 min2-requires c κs = search needs
 
-level-of-requires : tie.Need-level-of-requires
-level-of-requires c κs = search needs
+level-by-requires : tie.Need-level-by-requires
+level-by-requires c κs = search needs
 
 -- the lower key, of the pixel's own level and the best that was gathered
 lower : (c : tie.After-min2) → c .min2 .result ≡ min (keyBy (c .before .before .before .args .mode) (c .before .before .before .args .own)) (key (c .before .before .before .args .best))
@@ -33,22 +31,9 @@ lower c =
     rw (← own, ← best) (c .min2 .ensures)
 
 returns : tie.Need-returns
-unfolding levelBy
 returns c =
-    let l = c .level-of in
-    rw (toZ-ofZ w16 (l .result) (record { sfits = l .ok }), eq-eqb _ _ (c .before .if1 .taken), l .ensures, lower (c .before .before))
-
-sub-level-of : tie.Need-sub-level-of
-sub-level-of c = search needs
-
-level-of-requires-2 : tie.Need-level-of-requires-2
-level-of-requires-2 c κs = search needs
-
-returns-2 : tie.Need-returns-2
-unfolding levelBy
-returns-2 c =
-    let l = c .level-of2 in
-    rw (toZ-ofZ w16 (l .result) (record { sfits = l .ok }), ne-eqb _ _ (c .before .if1 .left), l .ensures, lower (c .before .before))
+    let l = c .level-by in
+    rw (toZ-ofZ w16 (l .result) (record { sfits = l .ok })) (l .ensures ∙ ap (levelBy (c .before .before .before .before .args .mode)) (lower (c .before)))
 
 pub finished-spec : {M : Type 1} → statement M
 finished-spec =
@@ -57,8 +42,5 @@ finished-spec =
     key-by-requires
     key-of-requires
     min2-requires
-    level-of-requires
-    returns
-    sub-level-of
-    level-of-requires-2
-    returns-2)
+    level-by-requires
+    returns)

@@ -7,8 +7,8 @@ use Rattle.engine.proofs.sweep.sweep.Tie as tie
 blank-requires : tie.Need-blank-requires
 blank-requires c κs = search needs
 
-scan-chosen-requires : tie.Need-scan-chosen-requires
-scan-chosen-requires c κs = search needs
+open-chosen-requires : tie.Need-open-chosen-requires
+open-chosen-requires c κs = search needs
 
 finish-requires : tie.Need-finish-requires
 finish-requires c κs = search needs
@@ -23,15 +23,15 @@ returns : tie.Need-returns
 returns c =
     let s = c .before .before .before .before .before .before .before .before .before .before .before .before .before in
     let a = s .args in
-    all-filtered (a .setting) (a .width) (a .height) (a .plate .now) (a .result .now) (c .before .before .before .before .before .before .before .before .before .before .blank .last .0) (c .before .before .before .before .before .before .scan-chosen .last .0) (c .before .finish .last .0)
-    (s .pre .plate-size) (s .pre .result-size) (s .pre .long) (c .before .before .before .before .before .before .before .before .before .before .blank .ensures) (c .before .before .before .before .before .before .scan-chosen .ensures) (c .before .finish .ensures)
+    all-filtered (a .setting) (a .width) (a .height) (a .plate .now) (a .result .now) (c .before .before .before .before .before .before .before .before .before .before .blank .last .0) (c .before .before .before .before .before .before .open-chosen .last .0) (c .before .finish .last .0)
+    (s .pre .plate-size) (s .pre .result-size) (s .pre .long) (c .before .before .before .before .before .before .before .before .before .before .blank .ensures) (c .before .before .before .before .before .before .open-chosen .ensures) (c .before .finish .ensures)
 
 pub sweep-spec : {M : Type 1} → statement M
 sweep-spec =
     tie.close
     (tie.spec
     blank-requires
-    scan-chosen-requires
+    open-chosen-requires
     finish-requires
     same-length
     same-length-2

@@ -1,25 +1,24 @@
 -- `draw` meets its contract: the pixel is set, and the two trails from it make one walk.
-use Prim.Native.Nat.{_+_, _-_}
-use mathlib.Core.Path.{_≡_, _∙_}
+use mathlib.Core.Path.{_∙_}
 use native.Mathlib.Omega.{arith}
 use borrow.Author.Needs.{needs}
-use lib.ListN.{length, set, length-set}
+use lib.ListN.{set, length-set}
 use lib.Seq.{getD-set-same}
 use Rattle.tracing.proofs.Drawing.{drawn}
 use Rattle.tracing.proofs.draw.draw.Statement.{statement}
 use Rattle.tracing.proofs.draw.draw.Tie as tie
-
-sub-ahead : tie.Need-sub-ahead
-sub-ahead c = search needs
-
-sub-left : tie.Need-sub-left
-sub-left c = search needs
 
 mul-path : tie.Need-mul-path
 mul-path c = search needs
 
 slice-write-path : tie.Need-slice-write-path
 slice-write-path c = search needs
+
+sub-t10 : tie.Need-sub-t10
+sub-t10 c = search needs
+
+sub-t12 : tie.Need-sub-t12
+sub-t12 c = search needs
 
 follow-requires : tie.Need-follow-requires
 follow-requires c κs =
@@ -55,7 +54,7 @@ follow-requires-2 c κs =
           s .pre .1 .1 .0,
           (
             (omega (arith, size, s .pre .1 .0, s .pre .0 .short), omega (arith, size, s .pre .1 .0, t .of-path)),
-            (omega (arith, size, s .pre .1 .0, t .of-path), rw here (t .to-x)),
+            ((omega arith, omega (arith, size, s .pre .1 .0, t .of-path)), rw here (t .to-x)),
           ),
         ),
       ),
@@ -84,10 +83,10 @@ pub draw-spec : {M : Type 1} → statement M
 draw-spec =
     tie.close
     (tie.spec
-    sub-ahead
-    sub-left
     mul-path
     slice-write-path
+    sub-t10
+    sub-t12
     follow-requires
     follow-requires-2
     same-length

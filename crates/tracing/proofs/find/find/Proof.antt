@@ -3,15 +3,13 @@ use Prim.Native.Nat.{_-_, _^_, _≤_}
 use mathlib.Core.Path.{_≡_, refl, sym, _∙_}
 use mathlib.Core.Logic.{⊎-elim}
 use native.Mathlib.Omega.{arith}
-use borrow.Author.Needs.{needs}
 use lib.ListN.{length}
 use Rattle.plate.specs.Paths.{span}
 use Rattle.theory.proofs.Opening.{Levels}
-use Rattle.engine.proofs.SweepLaws.{accepted-still}
 use Rattle.tracing.specs.Finding.{BestOf, keysBy}
 use Rattle.tracing.proofs.Directions.{usable-long}
 use Rattle.tracing.proofs.Searching.{lowest-attained}
-use Rattle.tracing.proofs.Finding.{best-first, best-more, best-skip}
+use Rattle.tracing.proofs.Finding.{accepted-still, best-first, best-more, best-skip}
 use Rattle.tracing.proofs.find.find.Statement.{statement}
 use Rattle.tracing.proofs.find.find.Tie as tie
 
@@ -68,7 +66,7 @@ find-at-requires-2 c κs =
     let a = s .args in
     let l = c .before .before .before .before .loop in
     let len = l .inv .1 ∙ c .before .before .before .before .before .before .before .find-at .kept .0 in
-    (accepted-still _ _ _ _ _ _ _ _ refl len (s .pre .0), (s .pre .1 .0 .0, c .before .before .before .loop-test .taken, sym (c .before .before .is-usable .ensures) ∙ c .before .if1 .taken))
+    (accepted-still _ _ _ _ _ _ _ len (s .pre .0), (s .pre .1 .0 .0, c .before .before .before .loop-test .taken, sym (c .before .before .is-usable .ensures) ∙ c .before .if1 .taken))
 
 add-index-2 : tie.Need-add-index-2 Inv-loop μ-loop
 add-index-2 c = omega arith

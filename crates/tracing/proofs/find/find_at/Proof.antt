@@ -2,9 +2,8 @@
 use mathlib.Core.Path.{sym, _∙_}
 use native.Mathlib.Omega.{arith}
 use borrow.Author.Needs.{needs}
-use Rattle.engine.proofs.SweepLaws.{scan-pixels, scan-room}
 use Rattle.tracing.proofs.Directions.{usable-long}
-use Rattle.tracing.proofs.Finding.{scan-found}
+use Rattle.tracing.proofs.Finding.{scan-pixels, scan-room, scan-found}
 use Rattle.tracing.proofs.find.find_at.Statement.{statement}
 use Rattle.tracing.proofs.find.find_at.Tie as tie
 
@@ -19,7 +18,7 @@ scan-of-requires c κs =
     let n = c .span-of .ensures in (
       (p .wide, p .narrow, p .high, p .low, p .few-pixels),
       (
-        (p .long, p .few-gaps, s .pre .1 .1),
+        (p .long, p .short, p .few-gaps, s .pre .1 .1),
         (n .0, n .1, omega (arith, n .0, usable-long (a .width) (a .height) (a .setting) (a .index) (s .pre .1 .1) (s .pre .1 .2))),
       ),
     )
@@ -30,12 +29,12 @@ find-in-requires c κs =
     let a = s .args in
     let p = s .pre .0 in
     let r = c .before .scan-of in
-    let n = scan-pixels (r .result) (a .width) (a .height) (a .setting) (a .index) (r .ensures .0) (r .ensures .1) in (
+    let n = scan-pixels (r .result) (a .width) (a .height) (a .setting) (a .index) (r .ensures .0) (r .ensures .1) (p .long) in (
       r .ensures .0,
       (
         p .plate-size ∙ sym n,
         omega (arith, n, s .pre .1 .0),
-        omega (arith, scan-room (r .result) (a .width) (a .height) (a .setting) (a .index) (r .ensures .0) (r .ensures .1) _ (p .work-size)),
+        omega (arith, scan-room (r .result) (a .width) (a .height) (a .setting) (a .index) (r .ensures .0) (r .ensures .1) (p .long) _ (p .work-size)),
       ),
     )
 

@@ -1,26 +1,21 @@
 -- `find_in` meets its contract: both sides are noted, and the notes tell every term of the direction.
-use Prim.Native.Nat.{_+_}
-use mathlib.Core.Bool.{true, false}
-use native.Mathlib.Nat.{add-mul}
+use mathlib.Core.Path.{refl}
+use mathlib.Core.Bool.{true}
 use native.Mathlib.Omega.{arith}
 use borrow.Author.Needs.{needs}
-use mathlib.Core.Path.{refl}
-use Rattle.engine.specs.States.{keyOf}
-use Rattle.engine.proofs.Rooms.{on-plate, rank-below}
-use Rattle.tracing.proofs.Leading.{key-read}
-use Rattle.tracing.proofs.Noting.{notes-fit, noted-beyond}
+use Rattle.tracing.specs.Scans.{bitOf, keyOf}
+use Rattle.tracing.proofs.Rooms.{rank-below}
+use Rattle.tracing.proofs.Modes.{key-read}
+use Rattle.tracing.proofs.SideNotes.{notes-small, noted-apart}
 use Rattle.tracing.proofs.Searching.{searched-found}
 use Rattle.tracing.proofs.find.find_in.Statement.{statement}
 use Rattle.tracing.proofs.find.find_in.Tie as tie
 
-add-key-by : tie.Need-add-key-by
-add-key-by c = search needs
+add-t11 : tie.Need-add-t11
+add-t11 c = search needs
 
-add-key-by-2 : tie.Need-add-key-by-2
-add-key-by-2 c = search needs
-
-add-note-side : tie.Need-add-note-side
-add-note-side c = search needs
+add-t12 : tie.Need-add-t12
+add-t12 c = search needs
 
 mul-key-by : tie.Need-mul-key-by
 mul-key-by c = search needs
@@ -34,31 +29,51 @@ key-by-requires c κs = search needs
 rank-of-requires : tie.Need-rank-of-requires
 rank-of-requires c κs = search needs
 
-add-note-side-2 : tie.Need-add-note-side-2
-add-note-side-2 c = search needs
+slice-aggregate-note-side : tie.Need-slice-aggregate-note-side
+slice-aggregate-note-side c = search needs
 
 note-side-requires : tie.Need-note-side-requires
-note-side-requires c κs = search needs
+note-side-requires c κs =
+    let s = c .before .before .before .before .before .before .before in
+    let small = notes-small (s .args .scan .steps) (s .args .scan .gaps) (s .pre .0 .few-steps) (s .pre .0 .few) in (s .pre .0, (s .pre .1, (omega (arith, small), omega arith)))
+
+slice-aggregate-note-side-2 : tie.Need-slice-aggregate-note-side-2
+slice-aggregate-note-side-2 c = search needs
 
 note-side-requires-2 : tie.Need-note-side-requires-2
-note-side-requires-2 c κs = search needs
+note-side-requires-2 c κs =
+    let s = c .before .before .before .before .before .before .before .before .before .before .before .before .before in
+    let n = c .before .before .before .before .before .note-side in
+    let small = notes-small (s .args .scan .steps) (s .args .scan .gaps) (s .pre .0 .few-steps) (s .pre .0 .few) in (
+      s .pre .0,
+      (
+        (s .pre .1 .0, s .pre .1 .1, omega (arith, s .pre .1 .2, n .kept .1 .1 .0)),
+        (
+          omega (arith, small, n .kept .0),
+          omega
+              (arith, n .kept .0),
+        ),
+      ),
+    )
+
+slice-aggregate-search : tie.Need-slice-aggregate-search
+slice-aggregate-search c = search needs
 
 search-requires : tie.Need-search-requires
 search-requires c κs =
-    let s = c .before .before .before .before .before .before .before .before .before .before .before .before .before .before in
+    let first = c .before .before .before .before .before .before .before .before .before .before .note-side .kept .0 in
+    let second = c .before .before .before .before .note-side2 .kept .0 in
+    let s =
+    c .before .before .before .before .before .before .before .before .before .before .before .before .before .before .before .before .before .before in
     let a = s .args in
-    let n = a .scan .steps in
-    let fits = notes-fit (a .scan) (s .pre .0) n (omega arith) in
-    let all = add-mul n 1 (a .scan .gaps + 1) in
-    let same = c .before .before .before .before .before .before .before .note-side .kept .0 in
-    let same′ = c .before .before .before .note-side2 .kept .0 in (
+    let small = notes-small (a .scan .steps) (a .scan .gaps) (s .pre .0 .few-steps) (s .pre .0 .few) in (
       (
         omega (arith, s .pre .0 .short),
         s .pre .0 .few,
-        omega (arith, c .before .before .before .before .before .before .before .before .before .rank-of .ensures, rank-below (a .scan) (s .pre .0) (a .x) (s .pre .1 .1)),
+        omega (arith, c .before .before .before .before .before .before .before .before .before .before .before .before .before .rank-of .ensures, rank-below (a .scan .width) (a .scan .height) (a .x) (a .scan .index) (s .pre .0 .known) (s .pre .1 .1), s .pre .0 .long),
         omega (arith, s .pre .0 .short),
       ),
-      (omega (arith, fits, all, same, same′, s .pre .1), omega (arith, fits, all, same, same′, s .pre .1)),
+      (omega (arith, small, first, second), omega (arith, small, first, second)),
     )
 
 same-length : tie.Need-same-length
@@ -66,19 +81,21 @@ same-length c = search needs
 
 returns : tie.Need-returns
 returns c =
-    let s = c .before .before .before .before .before .before .before .before .before .before .before .before .before .before .before in
+    let s = c .before .before .before .before .before .before .before .before .before .before .before .before .before .before .before .before .before .before .before in
     let a = s .args in
-    let z = a .scan .size in
-    let goes = c .before .before .before .before .before .before .before .before .note-side in
-    let ends = c .before .before .before .before .note-side2 in
-    let own = c .before .before .before .before .before .before .before .before .before .before .before .key-by in
-    let on = on-plate (a .scan) (s .pre .0) (a .x) (s .pre .1 .1) in
-    let is-own = key-read (a .scan) (a .plate .now) (a .x) (own .result) (c .before .before .before .before .before .before .before .before .before .before .before .before .key-by-arg .given) (omega (arith, s .pre .1)) (own .ensures) in
-    let goes′ =
-    noted-beyond (a .scan) (s .pre .0) (a .plate .now) false (a .x) (s .pre .1 .1) (goes .last .0) (ends .last .0) (z + z) 0 (z + z) (a .scan .steps) (ends .ensures .1 .0) (omega arith) (goes .ensures .0) in (
-      searched-found (a .scan .width) (a .scan .height) (a .scan .steps) (a .scan .gaps) (a .scan .spare) (keyOf (a .scan) (a .plate .now)) (a .x) (a .scan .index)
-          (s .pre .0 .known) on (s .pre .0 .long) (ends .last .0) (record { ends = z; goes = z + z; steps = a .scan .steps; gaps = a .scan .gaps }) (own .result) refl refl is-own
-          (ends .ensures .0) goes′ (a .found) (c .search .result) (rw (c .before .before .before .before .before .before .before .before .before .before .rank-of .ensures) at (c .search .ensures)),
+    let own = c .before .before .before .before .before .before .before .before .before .before .before .before .before .before .before .key-by in
+    let ends = c .before .before .before .before .before .before .before .before .before .before .before .note-side in
+    let goes = c .before .before .before .before .before .note-side2 in
+    let small = notes-small (a .scan .steps) (a .scan .gaps) (s .pre .0 .few-steps) (s .pre .0 .few) in
+    let is-own = key-read (a .scan) (a .plate .now) (a .x) (own .result) (c .before .before .before .before .before .before .before .before .before .before .before .before .before .before .before .before .key-by-arg .given) (omega (arith, s .pre .1)) (own .ensures) in
+    let ends′ = noted-apart (a .scan .width) (a .scan .height) (bitOf (a .scan)) true (keyOf (a .scan) (a .plate .now)) (a .scan .gaps) (a .scan .steps) (a .x) 0 9216 _ _ _
+    (goes .ensures .1 .0) (omega (arith, small)) (ends .ensures .0) in (
+      searched-found (a .scan .width) (a .scan .height) (a .scan .steps) (a .scan .gaps) (a .scan .spare) (keyOf (a .scan) (a .plate .now)) (a .x)
+          (a .scan .index)
+          (s .pre .0 .known) (s .pre .1 .1) (s .pre .0 .long) _ (record { ends = 0; goes = 9216; steps = a .scan .steps; gaps = a .scan .gaps })
+          (own .result) refl refl is-own
+          ends′ (goes .ensures .0) (a .found) (c .search .result) (rw
+          (c .before .before .before .before .before .before .before .before .before .before .before .before .before .before .rank-of .ensures) at (c .search .ensures)),
       goes .ensures .1 .1,
     )
 
@@ -86,16 +103,17 @@ pub find-in-spec : {M : Type 1} → statement M
 find-in-spec =
     tie.close
     (tie.spec
-    add-key-by
-    add-key-by-2
-    add-note-side
+    add-t11
+    add-t12
     mul-key-by
     shared-slice-copy-out-key-by
     key-by-requires
     rank-of-requires
-    add-note-side-2
+    slice-aggregate-note-side
     note-side-requires
+    slice-aggregate-note-side-2
     note-side-requires-2
+    slice-aggregate-search
     search-requires
     same-length
     returns)

@@ -1,8 +1,7 @@
 -- `search` meets its contract: the possible numbers of steps before the pixel are searched row by row, from the least to the greatest.
-use Prim.Native.Nat.{_+_, _-_, _*_, _≤_, min}
+use Prim.Native.Nat.{_+_, _-_, _≤_, min}
 use mathlib.Core.Path.{_≡_}
 use native.Mathlib.Omega.{arith}
-use borrow.Author.Needs.{needs}
 use Rattle.basics.proofs.Numbers.{rows-fit}
 use Rattle.tracing.specs.Finding.{termAt, Possible, Searched}
 use Rattle.tracing.proofs.Searching.{searched-none, searched-more, searched-all}

@@ -1,10 +1,8 @@
 -- `search_row` meets its contract: the best of the first i terms grows by one term a turn.
 use Prim.Native.Nat.{_+_, _-_, _≤_}
-use mathlib.Core.Path.{_≡_, sym, _∙_}
+use mathlib.Core.Path.{_≡_}
 use mathlib.Core.Logic.{⊎-elim}
 use native.Mathlib.Omega.{arith}
-use borrow.Author.Needs.{needs}
-use lib.ListN.{length}
 use Rattle.tracing.specs.Finding.{sharedAt, RowSearched}
 use Rattle.tracing.proofs.Searching.{row-none, row-kept, row-better, shared-is}
 use Rattle.tracing.proofs.find.search_row.Statement.{statement}

@@ -1,149 +1,174 @@
--- `note_side` meets its contract: at each turn the set is one step further, and its numbers of x are noted after the others.
-use Prim.Native.Nat.{_+_, _-_, _*_, _≤_}
-use mathlib.Core.Path.{_≡_, refl, _∙_}
-use native.Mathlib.Nat.{add-mul}
+-- `note_side` meets its contract: at each turn one state more is made in the place of the last and noted.
+use Prim.Native.Nat.{_-_, _≤_, _<_}
+use mathlib.Core.Path.{_≡_, refl, sym, _∙_}
+use mathlib.Core.Logic.{inl}
 use native.Mathlib.Omega.{arith}
-use borrow.Author.Needs.{needs}
 use lib.ListN.{length}
-use Rattle.theory.proofs.Opening.{Levels}
-use Rattle.engine.specs.States.{Holds, Apart, bitOf, keyOf, cells}
-use Rattle.engine.proofs.WorkLaws.{held-apart, run-apart, apart-then, apart-none}
-use Rattle.tracing.specs.Finding.{Noted}
-use Rattle.tracing.proofs.Noting.{notes-fit, noted-first, noted-more}
+use Rattle.tracing.proofs.Noting.{SideNoted, side-none, side-more}
+use Rattle.tracing.proofs.Sighting.{sight-kept, sight-area, sight-keys-size, sight-room, sight-sound, sight-states-few, sight-keys, sight-levels, sight-sequence}
+use Rattle.tracing.proofs.SideNotes.{notes-fit, side-noted, side-apart}
 use Rattle.tracing.proofs.notes.note_side.Statement.{statement}
 use Rattle.tracing.proofs.notes.note_side.Tie as tie
 
 abbrev Inv-loop : tie.InvT-loop
-Inv-loop work₀ plate scan backwards x at planes m₀ to₀ work m to =
-    (m ≤ scan .steps)
-    × (to ≡ at + m * (scan .gaps + 1))
+Inv-loop notes₀ to work₀ plate backwards x held₀ below₀ sight plan base e₀ notes work held below e =
+    (e ≤ sight .states)
     × (length work ≡ length work₀)
-    × Levels plate
-    × Holds (cells work 0) plate scan backwards m
-    × Noted (cells work at) (scan .width) (scan .height) (bitOf scan) backwards (keyOf scan plate) (scan .gaps) (scan .spare) m x
-    × Apart work₀ work 0 (at + scan .size)
+    × (length held ≡ 18612)
+    × (length below ≡ 1032)
+    × (length notes ≡ length notes₀)
+    × SideNoted plan (sight .states) to base e work₀ work notes₀ notes
 
 abbrev μ-loop : tie.MeasureT-loop
-μ-loop work₀ plate scan backwards x at planes m₀ to₀ work m to = scan .steps - m
+μ-loop notes₀ to work₀ plate backwards x held₀ below₀ sight plan base e₀ notes work held below e = sight .states - e
 
-add-planes : tie.Need-add-planes Inv-loop μ-loop
-add-planes c = omega (arith, c .before .before .pre .0 .few)
+sight-of-requires : tie.Need-sight-of-requires Inv-loop μ-loop
+sight-of-requires c κs = let s = c .before .before in (s .pre .0, s .pre .1 .0 .1)
 
-start-at-requires : tie.Need-start-at-requires Inv-loop μ-loop
-start-at-requires c κs =
-    let s = c .before .before .before in
-    (s .pre .0, (s .pre .1 .0, omega (arith, s .pre .1)))
+mul-base : tie.Need-mul-base Inv-loop μ-loop
+mul-base c =
+    let s = c .before .before .before .before .before in
+    let a = s .args in
+    let r = c .before .before .sight-of in
+    omega (arith, sight-room (a .scan) (s .pre .0) (a .backwards) (a .x) (r .result) (r .ensures) _ (s .pre .1 .0 .2) .keys)
 
-note-requires : tie.Need-note-requires Inv-loop μ-loop
-note-requires c κs =
-    let s = c .before .before .before .before .before .before .before in
-    let a = s .args in (
-      s .pre .1 .1,
-      omega (arith, s .pre .0 .is-size, s .pre .1),
-      omega (arith, notes-fit (a .scan) (s .pre .0) 0 (omega arith), s .pre .1, c .before .before .before .start-at .kept .0),
-    )
+fill-keys-requires : tie.Need-fill-keys-requires Inv-loop μ-loop
+fill-keys-requires c κs =
+    let s = c .before .before .before .before .before .before in
+    let a = s .args in
+    let r = c .before .before .before .sight-of in
+    let room = sight-room (a .scan) (s .pre .0) (a .backwards) (a .x) (r .result) (r .ensures) _ (s .pre .1 .0 .2) .alone in
+    let size = sight-keys-size (a .scan) (s .pre .0) (a .backwards) (a .x) (r .result) (r .ensures) in
+    let area = sight-area (a .scan) (s .pre .0) (a .backwards) (a .x) (r .result) (r .ensures) in
+    (sight-kept (a .scan) (s .pre .0) (a .backwards) (a .x) (r .result) (r .ensures), (omega (arith, room, size), omega (arith, area, s .pre .1 .0 .0)))
+
+add-fill-run : tie.Need-add-fill-run Inv-loop μ-loop
+add-fill-run c = omega (arith, c .before .before .before .before .before .before .before .before .before .before .before .pre .0 .few-steps)
+
+add-fill-run-2 : tie.Need-add-fill-run-2 Inv-loop μ-loop
+add-fill-run-2 c = omega (arith, c .before .before .before .before .before .before .before .before .before .before .before .before .pre .0 .few)
+
+mul-fill-run : tie.Need-mul-fill-run Inv-loop μ-loop
+mul-fill-run c = omega (arith, c .before .before .before .before .before .before .before .before .before .before .before .before .pre .1 .1)
+
+fill-run-requires : tie.Need-fill-run-requires Inv-loop μ-loop
+fill-run-requires c κs = c .before .before .before .before .before .before .before .before .before .before .before .before .pre .1 .1 .0
 
 loop-holds : tie.Need-loop-holds Inv-loop μ-loop
-loop-holds c =
-    let s = c .before .before .before .before .before .before .before .before .before .before in
+loop-holds c = (omega arith, refl, refl, refl, refl, side-none _ _ _ _ _ _)
+
+slice-aggregate-advance : tie.Need-slice-aggregate-advance Inv-loop μ-loop
+slice-aggregate-advance c = sym (c .before .before .before .before .loop .inv .2)
+
+slice-aggregate-advance-2 : tie.Need-slice-aggregate-advance-2 Inv-loop μ-loop
+slice-aggregate-advance-2 c = sym (c .before .before .before .before .before .loop .inv .3)
+
+advance-requires : tie.Need-advance-requires Inv-loop μ-loop
+advance-requires c κs =
+    let i = c .before .before .before .before .before in
+    let o = i .before .before .before .before .before .before .before .before .before .before .before .before .before in
+    let s = o .before .before .before in
     let a = s .args in
-    let w = c .before .before .before .before .before .before .start-at in
-    let n = c .before .before .note in
-    let held = w .ensures .0 (a .backwards) in (
-      omega arith,
-      omega arith,
-      refl,
-      w .ensures .1 .1,
-      held-apart (a .scan) (s .pre .0) (a .plate .now) (a .backwards) 0 (w .last .0) (n .last .0) 0 (a .at) (a .at + (a .scan .gaps + 1))
-          (run-apart _ (w .last .0) (n .last .0) (a .at) (a .at + (a .scan .gaps + 1)) (n .ensures)) (omega (arith, s .pre .1)) held,
-      noted-first (a .scan) (s .pre .0) (a .plate .now) (a .backwards) (a .x) (s .pre .1 .1) (a .at) (w .last .0) (n .last .0) held (n .ensures),
-      apart-none (n .last .0) 0 (a .at + a .scan .size),
+    let r = o .sight-of in
+    let l = i .loop in
+    let room = sight-room (a .scan) (s .pre .0) (a .backwards) (a .x) (r .result) (r .ensures) _ (s .pre .1 .0 .2) in
+    let few = sight-states-few (a .scan) (s .pre .0) (a .backwards) (a .x) (r .result) (r .ensures) in
+    let same = l .inv .1 ∙ i .before .before .before .before .before .before .before .before .before .fill-keys .kept .0 in
+    let e : l .e < r .result .states = c .before .before .before .if1 .taken in (
+      sight-sound (a .scan) (s .pre .0) (a .backwards) (a .x) (r .result) (r .ensures),
+      (
+        (omega (arith, few, e), omega arith, omega arith, omega (arith, room .alone, same), omega (arith, room .alone, same)),
+        (inl refl, (omega (arith, room .halves, l .inv .2), omega (arith, l .inv .2), omega (arith, room .row, l .inv .3))),
+      ),
     )
 
-add-run-at : tie.Need-add-run-at Inv-loop μ-loop
-add-run-at c =
-    let s = c .before .before .before .before .before .before .before .before .before .before .before .before .before .before in
-    omega (arith, s .pre .0 .short, c .before .if1 .taken)
-
-run-at-requires : tie.Need-run-at-requires Inv-loop μ-loop
-run-at-requires c κs =
-    let s = c .before .before .before .before .before .before .before .before .before .before .before .before .before .before in
+note-state-requires : tie.Need-note-state-requires Inv-loop μ-loop
+note-state-requires c κs =
+    let i = c .before .before .before .before .before .before .before .before .before .before .before .before in
+    let o = i .before .before .before .before .before .before .before .before .before .before .before .before .before in
+    let s = o .before .before .before in
     let a = s .args in
-    let l = c .before .before .before .loop in
-    (s .pre .0, ((s .pre .1 .0, omega (arith, s .pre .1, l .inv .2, c .before .before .before .before .before .before .note .kept .0, c .before .before .before .before .before .before .before .before .before .before .start-at .kept .0)), ((omega arith, omega (arith, c .before .if1 .taken)), l .inv .4)))
+    let r = o .sight-of in
+    let l = i .loop in
+    let room = sight-room (a .scan) (s .pre .0) (a .backwards) (a .x) (r .result) (r .ensures) _ (s .pre .1 .0 .2) in
+    let few = sight-states-few (a .scan) (s .pre .0) (a .backwards) (a .x) (r .result) (r .ensures) in
+    let same = c .before .before .before .before .before .before .advance .kept .0 ∙ l .inv .1 ∙ i .before .before .before .before .before .before .before .before .before .fill-keys .kept .0 in
+    let e : l .e < r .result .states = c .before .before .before .before .before .before .before .before .before .before .if1 .taken in (
+      sight-sound (a .scan) (s .pre .0) (a .backwards) (a .x) (r .result) (r .ensures),
+      (
+        omega (arith, few, e),
+        room .keys,
+        omega (arith, room .alone, same),
+        notes-fit (a .scan) (s .pre .0) (a .backwards) (a .x) (r .result) (r .ensures) (l .e) (a .to) _ e
+            (omega (arith, s .pre .1 .1 .0, l .inv .4, i .before .before .before .fill-run .kept .0)),
+      ),
+    )
 
-add-m : tie.Need-add-m Inv-loop μ-loop
-add-m c =
-    let s = c .before .before .before .before .before .before .before .before .before .before .before .before .before .before .before .before .before in
-    omega (arith, s .pre .0 .short, c .before .before .before .before .if1 .taken)
-
-add-to : tie.Need-add-to Inv-loop μ-loop
-add-to c =
-    let s = c .before .before .before .before .before .before .before .before .before .before .before .before .before .before .before .before .before in
+add-e : tie.Need-add-e Inv-loop μ-loop
+add-e c =
+    let i = c .before .before .before .before .before .before .before .before .before .before .before .before .before .before .before in
+    let o = i .before .before .before .before .before .before .before .before .before .before .before .before .before in
+    let s = o .before .before .before in
     let a = s .args in
-    let l = c .before .before .before .before .before .before .loop in
-    omega (arith, s .good, s .pre .1, l .inv .1, notes-fit (a .scan) (s .pre .0) (l .m + 1) (omega (arith, c .before .before .before .before .if1 .taken)), add-mul (l .m) 1 (a .scan .gaps + 1))
-
-note-requires-2 : tie.Need-note-requires-2 Inv-loop μ-loop
-note-requires-2 c κs =
-    let s = c .before .before .before .before .before .before .before .before .before .before .before .before .before .before .before .before .before .before in
-    let a = s .args in
-    let l = c .before .before .before .before .before .before .before .loop in (
-      s .pre .1 .1,
-      omega (arith, s .pre .0 .is-size, s .pre .1, l .inv .1),
-      omega (arith, s .pre .1, l .inv .1, l .inv .2, notes-fit (a .scan) (s .pre .0) (l .m + 1) (omega (arith, c .before .before .before .before .before .if1 .taken)), add-mul (l .m) 1 (a .scan .gaps + 1), c .before .before .before .run-at .kept .0, c .before .before .before .before .before .before .before .before .before .before .note .kept .0, c .before .before .before .before .before .before .before .before .before .before .before .before .before .before .start-at .kept .0),
+    let r = o .sight-of in
+    omega (
+      arith,
+      sight-states-few (a .scan) (s .pre .0) (a .backwards) (a .x) (r .result) (r .ensures),
+      c .before .before .before .before .before .before .before .before .before .before .before .before .before .if1 .taken,
     )
 
 loop-less : tie.Need-loop-less Inv-loop μ-loop
-loop-less c = omega (arith, c .before .before .before .before .before .before .before .before .if1 .taken)
+loop-less c =
+    omega (arith, c .before .before .before .before .before .before .before .before .before .before .before .before .before .if1 .taken)
 
 loop-again : tie.Need-loop-again Inv-loop μ-loop
 loop-again c =
-    let s = c .before .before .before .before .before .before .before .before .before .before .before .before .before .before .before .before .before .before .before .before .before in
+    let i = c .before .before .before .before .before .before .before .before .before .before .before .before .before .before .before in
+    let o = i .before .before .before .before .before .before .before .before .before .before .before .before .before in
+    let s = o .before .before .before in
     let a = s .args in
-    let l = c .before .before .before .before .before .before .before .before .before .before .loop in
-    let r = c .before .before .before .before .before .before .run-at in
-    let n = c .before .before .note2 in
-    let to = l .to + (a .scan .gaps + 1) in
-    let is-to : to ≡ a .at + (l .m + 1) * (a .scan .gaps + 1) = omega (arith, l .inv .1, add-mul (l .m) 1 (a .scan .gaps + 1)) in
-    let fits = notes-fit (a .scan) (s .pre .0) (l .m + 1) (omega (arith, c .before .before .before .before .before .before .before .before .if1 .taken)) in
-    let noted = run-apart _ (r .last .0) (n .last .0) to (to + (a .scan .gaps + 1)) (n .ensures) in
-    let both =
-    apart-then (l .work) (r .last .0) (n .last .0) 0 (a .at + a .scan .size) 0 (0 + a .scan .size) to (to + (a .scan .gaps + 1)) (r .ensures .1) noted
-    (omega arith) (omega arith) (omega arith) (omega (arith, is-to, fits)) in (
-      omega (arith, c .before .before .before .before .before .before .before .before .if1 .taken),
-      is-to,
-      n .kept .0 ∙ r .kept .0 ∙ l .inv .2,
-      l .inv .3,
-      held-apart (a .scan) (s .pre .0) (a .plate .now) (a .backwards) (l .m + 1) (r .last .0) (n .last .0) 0 to (to + (a .scan .gaps + 1)) noted
-          (omega (arith, s .pre .1, is-to)) (r .ensures .0),
-      noted-more (a .scan) (s .pre .0) (a .plate .now) (a .backwards) (a .x) (s .pre .1 .1) (a .at) (l .m) to (l .work) (r .last .0) (n .last .0) (s .pre .1 .2) is-to
-          (l .inv .5) (r .ensures .1) (r .ensures .0) (n .ensures),
-      apart-then _ (l .work) (n .last .0) 0 (a .at + a .scan .size) 0 (a .at + a .scan .size) 0 (a .at + a .scan .size) (l .inv .6) both
-          (omega arith) (omega arith) (omega arith) (omega arith),
+    let r = o .sight-of in
+    let l = i .loop in
+    let ad = c .before .before .before .before .before .before .before .before .before .advance in
+    let n = c .before .before .note-state in
+    let few = sight-states-few (a .scan) (s .pre .0) (a .backwards) (a .x) (r .result) (r .ensures) in
+    let e : l .e < r .result .states =
+    c .before .before .before .before .before .before .before .before .before .before .before .before .before .if1 .taken in (
+      omega (arith, e),
+      ad .kept .0 ∙ l .inv .1,
+      ad .ensures .1 .0 ∙ l .inv .2,
+      ad .ensures .1 .1 ∙ l .inv .3,
+      n .kept .0 ∙ l .inv .4,
+      side-more (r .result .plan) (sight-sound (a .scan) (s .pre .0) (a .backwards) (a .x) (r .result) (r .ensures)) (r .result .states) (a .to) _
+          (l .e) _ (l .work) _ _
+          (l .notes) _ (omega (arith, few, e)) e (omega arith) (l .inv .5) (ad .ensures .0) (n .ensures),
     )
 
 same-length : tie.Need-same-length Inv-loop μ-loop
-same-length c = c .before .before .loop .inv .2 ∙ c .before .before .before .before .before .note .kept .0 ∙ c .before .before .before .before .before .before .before .before .before .start-at .kept .0
+same-length c = c .before .before .loop .inv .4 ∙ c .before .before .before .before .before .fill-run .kept .0
+
+same-length-2 : tie.Need-same-length-2 Inv-loop μ-loop
+same-length-2 c = c .before .before .loop .inv .1 ∙ c .before .before .before .before .before .before .before .before .before .before .before .fill-keys .kept .0
 
 returns : tie.Need-returns Inv-loop μ-loop
 returns c =
-    let s = c .before .before .before .before .before .before .before .before .before .before .before .before .before in
+    let o = c .before .before .before .before .before .before .before .before .before .before .before .before .before .before .before in
+    let s = o .before .before .before in
     let a = s .args in
+    let r = o .sight-of in
     let l = c .before .before .loop in
-    let w = c .before .before .before .before .before .before .before .before .before .start-at in
-    let n = c .before .before .before .before .before .note in
-    let all : l .m ≡ a .scan .steps = omega (arith, c .if1 .left, l .inv .0) in
-    let fits = notes-fit (a .scan) (s .pre .0) 0 (omega arith) in
-    let noted = run-apart _ (w .last .0) (n .last .0) (a .at) (a .at + (a .scan .gaps + 1)) (n .ensures) in
-    let first =
-    apart-then (a .work .now) (w .last .0) (n .last .0) 0 (a .at + a .scan .size) 0 (0 + a .scan .size) (a .at) (a .at + (a .scan .gaps + 1)) (w .ensures .1 .0) noted
-    (omega arith) (omega arith) (omega arith) (omega (arith, fits)) in (
-      rw all at (l .inv .5),
+    let w = c .before .before .before .before .before .before .before .before .before .before .before .fill-keys in
+    let levels = sight-levels (a .scan) (s .pre .0) (a .backwards) (a .x) (r .result) (r .ensures) (a .plate .now) (s .pre .1 .0 .0) (w .ensures .1) in
+    let all : l .e ≡ r .result .states = omega (arith, c .if1 .left, l .inv .0) in
+    let keys = sight-keys (a .scan) (s .pre .0) (a .backwards) (a .x) (r .result) (r .ensures) (a .plate .now) _ _ (w .ensures .0) in
+    let noted =
+    rw all at (l .inv .5 .is _ _ keys (sight-sequence (a .scan) (s .pre .0) (a .backwards) (a .x) (r .result) (r .ensures) (a .plate .now)) .1) in (
+      side-noted (a .scan) (s .pre .0) (a .backwards) (a .x) (r .result) (r .ensures) (a .plate .now) levels (s .pre .1 .0 .1) (a .to) _ _ _
+          (c .before .before .before .before .before .fill-run .ensures) noted,
       (
-        apart-then (a .work .now) (n .last .0) (l .work) 0 (a .at + a .scan .size) 0 (a .at + a .scan .size) 0 (a .at + a .scan .size) first (l .inv .6)
-            (omega arith) (omega arith) (omega arith) (omega arith),
-        l .inv .3,
+        side-apart (a .scan) (s .pre .0) (a .backwards) (a .x) (r .result) (r .ensures) (a .plate .now) levels (s .pre .1 .0 .1) (a .to) _ _ _
+            (c .before .before .before .before .before .fill-run .ensures) noted,
+        levels,
       ),
     )
 
@@ -153,16 +178,21 @@ note-side-spec =
     (tie.spec
     Inv-loop
     μ-loop
-    add-planes
-    start-at-requires
-    note-requires
+    sight-of-requires
+    mul-base
+    fill-keys-requires
+    add-fill-run
+    add-fill-run-2
+    mul-fill-run
+    fill-run-requires
     loop-holds
-    add-run-at
-    run-at-requires
-    add-m
-    add-to
-    note-requires-2
+    slice-aggregate-advance
+    slice-aggregate-advance-2
+    advance-requires
+    note-state-requires
+    add-e
     loop-less
     loop-again
     same-length
+    same-length-2
     returns)

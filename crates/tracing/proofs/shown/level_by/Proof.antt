@@ -1,7 +1,6 @@
 -- `level_by` meets its contract, mode by mode.
 use mathlib.Core.Path.{sym, ap, _∙_}
 use borrow.Author.Needs.{needs}
-use lib.IntN.{ℤ}
 use mir.Syntax.{w16}
 use mir.ValLaws.{toZ-ofZ}
 use Rattle.plate.specs.Levels.{mirror}

@@ -1,15 +1,13 @@
 -- `show` meets its contract: the best path found has the filtered level, and drawn it shows all that demand 3 asks for.
-use Prim.Native.Nat.{_*_}
-use mathlib.Core.Path.{_≡_, refl, sym, ap, _∙_}
+use mathlib.Core.Path.{sym, ap, _∙_}
 use native.Mathlib.Omega.{arith}
 use borrow.Author.Needs.{needs}
 use lib.ListN.{length}
 use mir.Syntax.{w16}
 use mir.ValLaws.{toZ-ofZ}
 use Rattle.plate.specs.Refusals.{Verdict.accepted}
-use Rattle.engine.proofs.SweepLaws.{scan-pixels, scan-room}
 use Rattle.tracing.proofs.Directions.{usable-long}
-use Rattle.tracing.proofs.Finding.{scan-attained, scan-drawn}
+use Rattle.tracing.proofs.Finding.{scan-pixels, scan-room, scan-attained, scan-drawn}
 use Rattle.tracing.proofs.Showing.{clear-long, clear-plate, clear-path, clear-on, clear-accepted-sizes, level-found, path-shown}
 use Rattle.tracing.proofs.shown.show.Statement.{statement}
 use Rattle.tracing.proofs.shown.show.Tie as tie
@@ -36,7 +34,7 @@ scan-of-requires c κs =
     let n = c .span-of .ensures in (
       (p .wide, p .narrow, p .high, p .low, p .few-pixels),
       (
-        (p .long, p .few-gaps, b .listed),
+        (p .long, p .short, p .few-gaps, b .listed),
         (n .0, n .1, omega (arith, n .0, usable-long (a .width) (a .height) (a .setting) (c .before .before .before .find .result .index) (b .listed) (b .is-usable))),
       ),
     )
@@ -47,9 +45,9 @@ draw-requires c κs =
     let a = s .args in
     let f = c .before .before .before .before .before .before .find in
     let r = c .before .before .scan-of in
-    let n = scan-pixels (r .result) (a .width) (a .height) (a .setting) (f .result .index) (r .ensures .0) (r .ensures .1) in
-    let room = scan-room (r .result) (a .width) (a .height) (a .setting) (f .result .index) (r .ensures .0) (r .ensures .1) _ (clear-accepted-sizes (a .width) (a .height) (a .setting) (length (a .plate .now)) (a .x) (length (a .path .now)) (length (a .work .now)) (s .pre .0) .work-size) in
-    let long = clear-long (a .width) (a .height) (a .setting) (length (a .plate .now)) (a .x) (length (a .path .now)) (length (a .work .now)) (s .pre .0) in (
+    let long = clear-long (a .width) (a .height) (a .setting) (length (a .plate .now)) (a .x) (length (a .path .now)) (length (a .work .now)) (s .pre .0) in
+    let n = scan-pixels (r .result) (a .width) (a .height) (a .setting) (f .result .index) (r .ensures .0) (r .ensures .1) long in
+    let room = scan-room (r .result) (a .width) (a .height) (a .setting) (f .result .index) (r .ensures .0) (r .ensures .1) long _ (clear-accepted-sizes (a .width) (a .height) (a .setting) (length (a .plate .now)) (a .x) (length (a .path .now)) (length (a .work .now)) (s .pre .0) .work-size) in (
       r .ensures .0,
       (
         (clear-plate (a .width) (a .height) (a .setting) (length (a .plate .now)) (a .x) (length (a .path .now)) (length (a .work .now)) (s .pre .0) ∙ sym n, omega (arith, room, f .kept .0), omega (arith, clear-path (a .width) (a .height) (a .setting) (length (a .plate .now)) (a .x) (length (a .path .now)) (length (a .work .now)) (s .pre .0), long, r .ensures .1 .is-steps)),

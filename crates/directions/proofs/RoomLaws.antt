@@ -1,0 +1,103 @@
+-- The plans of the filter find room. None has more rows than the frame has lines, so that a state takes at most as much as the plates of all planes; and
+-- the rows of linked states are short, since they are no longer than there are lines, and both together make at most 65,536 pixels.
+use Prim.Native.Nat.{ℕ, _+_, _-_, _*_, _≤_}
+use mathlib.Core.Path.{_≡_, refl, sym}
+use mathlib.Core.Bool.{Bool, true, false, cond, _&&_, true≢false}
+use mathlib.Core.Logic.{inl, inr}
+use native.Mathlib.Nat.{mul-le-mul, mul-le-mul-right, mul-left-comm}
+use native.Mathlib.Omega.{arith}
+use Rattle.basics.proofs.Numbers.{le-or-lt}
+use Rattle.basics.proofs.Tests.{true-or-false}
+use Rattle.frames.specs.Frames.{Bounded, Framed}
+use Rattle.frames.specs.declared.frame.Frame.{Frame}
+use Rattle.rows.specs.Plans.{halfOf, stateSize, keysSize}
+use Rattle.rows.specs.declared.plan.Plan.{Plan}
+use Rattle.directions.specs.Plans.{straightPlan, stillPlan, rankedPlan, filterPlan, byRanks, spareOf, wholeArea, FrameOf}
+use Rattle.directions.proofs.FilterLaws.{filter-choice, ranks-fit, still-few, straight-few}
+
+-- the keys and a state find room, where states are linked two of them, and the rows held of two numbers too
+pub record Roomy (p : Plan) (room : ℕ) : Type 0 where
+  pub alone : keysSize p + stateSize p ≤ room
+  pub pair : p .linked ≡ true → keysSize p + 2 * stateSize p ≤ room
+  pub halves : halfOf p + halfOf p ≤ 18612
+  pub row : p .across + 7 ≤ 1032
+  pub keys : keysSize p ≤ 65536
+
+-- ---- numbers
+
+state-below : (rows lines across planes : ℕ) → rows ≤ lines → rows * (planes * across) ≤ planes * (lines * across)
+state-below rows lines across planes h = omega (arith, mul-le-mul-right (planes * across) h, mul-left-comm lines planes across)
+
+keys-below : (planes n : ℕ) → 1 ≤ planes → n ≤ planes * n
+keys-below planes n h = omega (arith, mul-le-mul-right n h)
+
+short-below : (lines across : ℕ) → across ≤ lines → lines * across ≤ 65536 → across ≤ 256
+short-below lines across h few =
+    elim (le-or-lt across 256) [
+      | inl k ↦ k
+      | inr k ↦ absurd (omega (arith, mul-le-mul-right across h, mul-le-mul {n₁ = 257} {m₁ = 257} {n₂ = across} {m₂ = across} k k))
+    ]
+
+block-below : (planes across n : ℕ) → planes ≤ 9 → across ≤ n → planes * (across + 10) ≤ 9 * (n + 10)
+block-below planes across n h k = mul-le-mul {n₁ = planes} {m₁ = across + 10} {n₂ = 9} {m₂ = n + 10} h (omega arith)
+
+-- ---- plans
+
+half-below : (p : Plan) → p .planes ≤ 9 → p .across ≤ 1024 → (p .linked ≡ true → p .across ≤ 256) → halfOf p + halfOf p ≤ 18612
+unfolding halfOf
+half-below p few wide short =
+    elim (true-or-false (p .linked)) [
+      | inl e ↦ rw e (omega (arith, block-below (p .planes) (p .across) 256 few (short e)))
+      | inr e ↦ rw e (omega (arith, block-below (p .planes) (p .across) 1024 few wide))
+    ]
+
+pub roomy : (p : Plan) (room : ℕ) → 1 ≤ p .planes → p .planes ≤ 9 → p .across ≤ 1024 → p .lines * p .across ≤ 65536 → p .rows ≤ p .lines →
+    (p .linked ≡ true → p .across ≤ p .lines) → 4 * p .planes * (p .lines * p .across) ≤ room → Roomy p room
+roomy p room some few wide keys fit slim h =
+    let state : stateSize p ≤ p .planes * (p .lines * p .across) = state-below (p .rows) (p .lines) (p .across) (p .planes) fit in
+    let kept : keysSize p ≤ p .planes * (p .lines * p .across) = keys-below (p .planes) (p .lines * p .across) some in
+    record {
+      alone = omega arith;
+      pair = λ _. omega arith;
+      halves = half-below p few wide (λ e. short-below (p .lines) (p .across) (slim e) keys);
+      row = omega arith;
+      keys = keys;
+    }
+
+-- ---- the plans of the filter
+
+module _ (r : Frame) {W H index : ℕ} (L : ℕ) (framed : Framed r W H index) (of : FrameOf r W H index) (some : 1 ≤ L) (few : L ≤ 1024)
+    (fit : L ≤ r .lines + cond (r .diagonal) (r .across - 1) 0) where
+  pub filter-room : (by-rows back : Bool) (planes room : ℕ) → 1 ≤ planes → planes ≤ 9 → 4 * planes * (r .lines * r .across) ≤ room →
+      Roomy (filterPlan r by-rows back L planes) room
+  filter-room by-rows back planes room some-planes few-planes h =
+      let b : Bounded r = framed .bounded in
+      filter-choice r L by-rows planes (λ (p : Bool → Plan) (n : ℕ). Roomy (p back) room)
+      (λ d k. roomy (rankedPlan r by-rows back (wholeArea r) (spareOf r L + 1) planes) room some-planes few-planes (b .few-across) (b .few-pixels)
+      (ranks-fit r L k) (λ _. of .slim d) h)
+      (λ d k. roomy (stillPlan r by-rows back L planes) room some-planes few-planes (b .few-across) (b .few-pixels)
+      (still-few r L framed of some few fit d k) (λ _. of .slim d) h)
+      (λ d. roomy (straightPlan r back (wholeArea r) L planes) room some-planes few-planes (b .few-across) (b .few-pixels)
+      (straight-few r L framed of some few fit d) (λ f. absurd (true≢false (sym f))) h)
+
+-- ---- what the plan says of itself
+
+module _ (r : Frame) (by-rows back : Bool) (L planes : ℕ) where
+  abbrev plan : Plan
+  plan = filterPlan r by-rows back L planes
+
+  pub filter-planes : plan .planes ≡ planes
+  filter-planes = filter-choice r L by-rows planes (λ (p : Bool → Plan) (n : ℕ). p back .planes ≡ planes) (λ d k. refl) (λ d k. refl) (λ d. refl)
+
+  pub filter-lines : plan .lines ≡ r .lines
+  filter-lines = filter-choice r L by-rows planes (λ (p : Bool → Plan) (n : ℕ). p back .lines ≡ r .lines) (λ d k. refl) (λ d k. refl) (λ d. refl)
+
+  pub filter-across : plan .across ≡ r .across
+  filter-across = filter-choice r L by-rows planes (λ (p : Bool → Plan) (n : ℕ). p back .across ≡ r .across) (λ d k. refl) (λ d k. refl) (λ d. refl)
+
+  pub filter-ranked : plan .ranked ≡ (r .diagonal && byRanks r L)
+  filter-ranked =
+      filter-choice r L by-rows planes (λ (p : Bool → Plan) (n : ℕ). p back .ranked ≡ (r .diagonal && byRanks r L))
+      (λ d k. rw (k, d))
+      (λ d k. rw (k, d))
+      (λ d. rw d)

@@ -1,0 +1,4 @@
+pub mod Plans
+pub mod Numbers
+pub mod Gathering
+pub mod Traces

@@ -1,0 +1,89 @@
+// A direction's lines on the plate. In a frame every direction is one of two: straight, where a step goes
+// on to the line before, one pixel to either side or none; or diagonal, where it goes to the line before,
+// one pixel back on the same line, or both. Which, and how the lines are counted, is read off the
+// direction's middle step in the table.
+ghost use mathlib.Core.Path.{_≡_};
+ghost use Prim.Native.Nat.{_*_, _≤_, _<_};
+ghost use Rattle.frames.specs.Frames.{Framed};
+ghost use Rattle.frames.specs.Frames.{turned as turnedIn};
+ghost use Rattle.directions.specs.Plans.{FrameOf, byRows};
+ghost use Rattle.directions.specs.Traces.{SpotOf};
+use frames::Frame;
+
+// A pixel of a frame.
+pub struct Spot {
+    pub line: usize,
+    pub pixel: usize,
+}
+
+// Whether the lines are rows of the plate: they are where the middle step changes the row alone; on the
+// diagonals the shorter of the two are lines.
+pub fn by_rows(width: usize, height: usize, index: usize) -> bool
+    ensures { λ r. ⌜ r ≡ byRows width height index ⌝ }
+{
+    if frames::columns_on(index, 1, false) == 1 {
+        return true;
+    }
+    if frames::rows_on(index, 1, false) == 1 {
+        return false;
+    }
+    width <= height
+}
+
+// The frame of the direction at this index of the step table.
+pub fn frame_of(width: usize, height: usize, index: usize) -> Frame
+    requires { ⌜ (1 ≤ width) × (width ≤ 1024) × (1 ≤ height) × (height ≤ 1024) × (width * height ≤ 65536) × (index < 4) ⌝ }
+    ensures { λ r. ⌜ (Framed r width height index) × (FrameOf r width height index) ⌝ }
+{
+    // the middle step's changes plus one
+    let column = frames::columns_on(index, 1, false);
+    let row = frames::rows_on(index, 1, false);
+    let diagonal = column != 1 && row != 1;
+    if by_rows(width, height, index) {
+        return Frame {
+            lines: height,
+            across: width,
+            leap: width,
+            hop: 1,
+            flipped: row == 2,
+            mirrored: column == 2,
+            diagonal: diagonal,
+        };
+    }
+    Frame {
+        lines: width,
+        across: height,
+        leap: 1,
+        hop: width,
+        flipped: column == 2,
+        mirrored: row == 2,
+        diagonal: diagonal,
+    }
+}
+
+// A number below n, or counted from the last one.
+fn turned(last: bool, n: usize, i: usize) -> usize
+    requires { ⌜ i < n ⌝ }
+    ensures { λ r. ⌜ (r ≡ turnedIn last n i) × (r < n) ⌝ }
+{
+    if last { n - 1 - i } else { i }
+}
+
+// Where the pixel at a place stands in the frame of this direction.
+pub fn spot_of(width: usize, height: usize, index: usize, frame: Frame, place: usize) -> Spot
+    requires { ⌜ (Framed frame width height index) × (FrameOf frame width height index) × (place < width * height) ⌝ }
+    ensures { λ r. ⌜ SpotOf frame r place ⌝ }
+{
+    let column = place % width;
+    let row = place / width;
+    if by_rows(width, height, index) {
+        return Spot {
+            line: turned(frame.flipped, frame.lines, row),
+            pixel: turned(frame.mirrored, frame.across, column),
+        };
+    }
+    Spot {
+        line: turned(frame.flipped, frame.lines, column),
+        pixel: turned(frame.mirrored, frame.across, row),
+    }
+}

@@ -1,0 +1,9 @@
+pub mod StepLaws
+pub mod KeyLaws
+pub mod PlateSpots
+pub mod Landing
+pub mod Bridge
+pub mod SpotLaws
+pub mod FrameSpots
+pub mod PlateLines
+pub mod FrameLaws

@@ -1,4 +1,0 @@
-pub mod Runs
-pub mod Sets
-pub mod Rows
-pub mod Lines

@@ -1,0 +1,4 @@
+pub mod States
+pub mod Holding
+pub mod Stacks
+pub mod Sweeps

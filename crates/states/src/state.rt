@@ -1,0 +1,200 @@
+// A state from the one before, row after row. Two rows of each state are held at a time, that of the
+// number before (`was`) and that of this number (`now`).
+ghost use mathlib.Core.Path.{_≡_};
+ghost use mathlib.Core.Logic.{_⊎_};
+ghost use Prim.Native.Nat.{ℕ, _+_, _-_, _*_, _≤_, _<_};
+ghost use lib.ListN.{length, getD};
+ghost use Rattle.rows.specs.Runs.{Apart};
+ghost use Rattle.rows.specs.Plans.{Sound, rowsIn, rowSize, stateSize, keysSize, blockOf, halfOf, starts};
+ghost use Rattle.states.specs.States.{Advanced, Joined};
+ghost use Rattle.states.specs.Holding.{Slotted, NextRow, LastRow, tapOf};
+use rows::Plan;
+use rows::Taps;
+use rows::blend_row;
+use rows::fill_run;
+use rows::join_row;
+use rows::load_row;
+use rows::row_of;
+use rows::rows_in;
+use rows::start_row;
+use rows::store_row;
+
+// Where the rows of the number before and of this number begin: the row of this state, then that of the
+// last state where states are linked.
+pub(crate) struct Slots {
+    pub(crate) was: usize,
+    pub(crate) now: usize,
+}
+
+fn swapped(slots: Slots) -> Slots
+    ensures { λ r. ⌜ (r .was ≡ slots .now) × (r .now ≡ slots .was) ⌝ }
+{
+    Slots {
+        was: slots.now,
+        now: slots.was,
+    }
+}
+
+// How much the rows of one number take.
+fn half_of(plan: Plan) -> usize
+    requires { ⌜ (plan .planes ≤ 9) × (plan .across ≤ 1024) ⌝ }
+    ensures { λ r. ⌜ (r ≡ halfOf plan) × (blockOf plan ≤ r) × (r ≤ 18612) ⌝ }
+{
+    let block = plan.planes * (plan.across + 10);
+    if plan.linked { block + block } else { block }
+}
+
+// Whether the walks of row m of state e are those of no steps.
+fn starts_at(plan: Plan, e: usize, m: usize) -> bool
+    ensures { λ r. ⌜ r ≡ starts plan e m ⌝ }
+{
+    if plan.ranked {
+        return e == 0;
+    }
+    m == 0
+}
+
+// Where a step finds its number for pixel 0 of plane 0.
+fn tap(plan: Plan, slots: Slots, y: usize, x: usize) -> usize
+    requires { ⌜ (plan .planes ≤ 9) × (plan .across ≤ 1024) × (slots .was < 40000) × (slots .now < 40000) × (x ≤ 2) ⌝ }
+    ensures { λ r. ⌜ r ≡ tapOf plan slots y + x ⌝ }
+{
+    if y == 0 {
+        return slots.was + x;
+    }
+    let block = plan.planes * (plan.across + 10);
+    if y == 1 {
+        return slots.was + block + x;
+    }
+    slots.now + block + x
+}
+
+// Row m of the last state is held at a slot, zeros where there is none.
+fn hold_last(
+    held: &mut [u16],
+    slot: usize,
+    work: &[u16],
+    from: usize,
+    plan: Plan,
+    e: usize,
+    m: usize,
+)
+    requires { ⌜ Sound plan ⌝ }
+    requires { ⌜ (e < 65536) × (m < rowsIn plan e) × (slot + blockOf plan ≤ length (now held)) × (from + stateSize plan ≤ length (now work)) ⌝ }
+    ensures { λ _. ⌜ LastRow plan e m (now (work .entry)) from (now (held .exit)) slot ⌝ }
+    ensures { λ _. ⌜ Apart (now (held .entry)) (now (held .exit)) slot (slot + blockOf plan) ⌝ }
+{
+    if e == 0 {
+        fill_run(held, slot, plan.planes * (plan.across + 10), 0);
+    } else {
+        let row = row_of(plan, e - 1, m);
+        let at = from + m * (plan.planes * plan.across);
+        load_row(held, slot, work, at, plan, row);
+    }
+}
+
+// Row m of state e, made of the rows of the number before and of the last state's row m.
+fn next_row(
+    held: &mut [u16],
+    below: &mut [u16],
+    work: &[u16],
+    plan: Plan,
+    e: usize,
+    m: usize,
+    from: usize,
+    slots: Slots,
+)
+    requires { ⌜ Sound plan ⌝ }
+    requires { ⌜ (e < 65536) × (m < rowsIn plan e) × (from + stateSize plan ≤ length (now work)) × (keysSize plan ≤ length (now work)) ⌝ }
+    requires { ⌜ (Slotted plan slots (length (now held))) × (plan .across + 7 ≤ length (now below)) ⌝ }
+    ensures { λ _. ⌜ NextRow plan e m (now (work .entry)) from slots (now (held .entry)) (now (held .exit)) ⌝ }
+    ensures { λ _. ⌜ length (now (below .exit)) ≡ length (now (below .entry)) ⌝ }
+{
+    let row = row_of(plan, e, m);
+    if plan.linked {
+        let block = plan.planes * (plan.across + 10);
+        hold_last(held, slots.now + block, work, from, plan, e, m);
+    }
+    if starts_at(plan, e, m) {
+        start_row(held, slots.now, work, plan, row, m);
+        return;
+    }
+    let taps = Taps {
+        t0: tap(plan, slots, plan.reach.y0, plan.reach.x0),
+        t1: tap(plan, slots, plan.reach.y1, plan.reach.x1),
+        t2: tap(plan, slots, plan.reach.y2, plan.reach.x2),
+        to: slots.now + 1,
+    };
+    blend_row(held, below, work, plan, row, taps);
+}
+
+// State e at `to`, from the one before at `from`, which may be the same place: a row of it is read before
+// its place is written. The keys stand at the beginning of the work buffer; what `held` and `below` hold
+// is free.
+pub fn advance(
+    work: &mut [u16],
+    held: &mut [u16],
+    below: &mut [u16],
+    plan: Plan,
+    e: usize,
+    from: usize,
+    to: usize,
+)
+    requires { ⌜ Sound plan ⌝ }
+    requires { ⌜ (e < 65536) × (keysSize plan ≤ from) × (keysSize plan ≤ to) × (from + stateSize plan ≤ length (now work)) × (to + stateSize plan ≤ length (now work)) ⌝ }
+    requires { ⌜ ((from ≡ to) ⊎ ((from + stateSize plan ≤ to) ⊎ (to + stateSize plan ≤ from))) ⌝ }
+    requires { ⌜ (halfOf plan + halfOf plan ≤ length (now held)) × (length (now held) ≤ 40000) × (plan .across + 7 ≤ length (now below)) ⌝ }
+    ensures { λ _. ⌜ Advanced plan e (now (work .entry)) (now (work .exit)) from to ⌝ }
+    ensures { λ _. ⌜ (length (now (held .exit)) ≡ length (now (held .entry))) × (length (now (below .exit)) ≡ length (now (below .entry))) ⌝ }
+{
+    let half = half_of(plan);
+    fill_run(held, 0, half, 0);
+    let mut slots = Slots { was: 0, now: half };
+    let rows = rows_in(plan, e);
+    let mut at = to;
+    let mut m = 0;
+    while m < rows {
+        next_row(held, below, work, plan, e, m, from, slots);
+        let row = row_of(plan, e, m);
+        store_row(work, at, held, slots.now, plan, row);
+        slots = swapped(slots);
+        at += plan.planes * plan.across;
+        m += 1;
+    }
+}
+
+// State e, from the one before at `from`, is joined with the state at `ends` and not kept: the best of each
+// pixel rises to the walks of both that meet there. Row m meets row m of the other, counted from its last.
+pub fn advance_joined(
+    best: &mut [u16],
+    work: &[u16],
+    held: &mut [u16],
+    below: &mut [u16],
+    plan: Plan,
+    e: usize,
+    from: usize,
+    ends: usize,
+)
+    requires { ⌜ Sound plan ⌝ }
+    requires { ⌜ (e < 65536) × (rowsIn plan e ≡ plan .rows) × (keysSize plan ≤ length (now best)) ⌝ }
+    requires { ⌜ (keysSize plan ≤ from) × (from + stateSize plan ≤ length (now work)) × (ends + stateSize plan ≤ length (now work)) ⌝ }
+    requires { ⌜ (halfOf plan + halfOf plan ≤ length (now held)) × (length (now held) ≤ 40000) × (plan .across + 7 ≤ length (now below)) ⌝ }
+    ensures { λ _. ⌜ Joined plan e (now (work .entry)) (now (best .entry)) (now (best .exit)) from ends ⌝ }
+    ensures { λ _. ⌜ (length (now (held .exit)) ≡ length (now (held .entry))) × (length (now (below .exit)) ≡ length (now (below .entry))) ⌝ }
+    ensures { λ _. ⌜ length (now (best .exit)) ≡ length (now (best .entry)) ⌝ }
+{
+    let half = half_of(plan);
+    fill_run(held, 0, half, 0);
+    let mut slots = Slots { was: 0, now: half };
+    let size = plan.planes * plan.across;
+    let mut at = ends + plan.rows * size;
+    let mut m = 0;
+    while m < plan.rows {
+        next_row(held, below, work, plan, e, m, from, slots);
+        at -= size;
+        let row = row_of(plan, e, m);
+        join_row(best, held, slots.now, work, at, plan, row);
+        slots = swapped(slots);
+        m += 1;
+    }
+}

@@ -1,0 +1,69 @@
+-- A path at the lowest key, where every path counts: a pixel with room for more steps has a neighbour with room for all of them but one, so that one is
+-- chosen; and the trail goes on there.
+use Prim.Native.Nat.{ℕ, _+_, _-_, _*_, _≤_, _<_}
+use mathlib.Core.Path.{_≡_, sym, ap}
+use mathlib.Core.Bool.{Bool}
+use mathlib.Core.List.{List}
+use native.Mathlib.Omega.{arith}
+use lib.ListN.{length, getD, set}
+use Rattle.theory.proofs.Ranks.{bit-listed}
+use Rattle.theory.proofs.Sides.{Side, side}
+use Rattle.tracing.specs.Scans.{Sound}
+use Rattle.tracing.specs.Headings.{bitOf, roomAt, Known}
+use Rattle.tracing.specs.Choosing.{Fitting, Chosen}
+use Rattle.tracing.specs.Following.{indexAfter, Within, Trail}
+use Rattle.tracing.specs.declared.heading.Heading.{Heading}
+use Rattle.tracing.specs.declared.scan.Scan.{Scan}
+use Rattle.tracing.proofs.Trails.{index-first, within-less, trail-none, trail-more, last-written}
+
+-- the heading of a scan
+abbrev pub headingOf : Scan → Bool → Heading
+headingOf s backwards =
+    record { width = s .width; height = s .height; index = s .index; longest = s .steps + s .spare + 1; backwards = backwards }
+
+pub heading-known : (s : Scan) (backwards : Bool) → Sound s → Known (headingOf s backwards)
+heading-known s backwards sound =
+    record { wide = sound .wide; narrow = sound .narrow; low = sound .low; listed = sound .known; is-longest = sym (sound .long) }
+
+module _ (h : Heading) (old : List ℕ) (start steps : ℕ) where
+  -- after n of the steps: the trail is written as far as this place, which has room for the others
+  pub record OnTrail (path : List ℕ) (place n : ℕ) : Type 0 where
+    pub trail : Trail (h .width) (h .height) (bitOf h) (h .backwards) old path start n
+    pub here : place ≡ getD path (indexAfter (h .backwards) start n) 0
+    pub on : place < h .width * h .height
+    pub few : n ≤ steps
+    pub roomy : steps - n ≤ roomAt h place
+
+  pub trail-starts :
+      getD old start 0 < h .width * h .height → steps ≤ roomAt h (getD old start 0) → OnTrail old (getD old start 0) 0
+  trail-starts on enough =
+      record {
+        trail = trail-none (h .width) (h .height) (bitOf h) (h .backwards) old start;
+        here = ap (λ (i : ℕ). getD old i 0) (sym (index-first (h .backwards) start));
+        on = on;
+        few = omega arith;
+        roomy = omega arith;
+      }
+
+  module _ (known : Known h) (path : List ℕ) (place n : ℕ) (d : OnTrail path place n) (more : n < steps) (r : ℕ)
+      (chosen : Chosen h place (steps - (n + 1)) r) where
+    S : Side (h .width) (h .height) (bitOf h) (h .backwards)
+    S = side (h .width) (h .height) (bitOf h) (bit-listed (h .index) (known .listed)) (h .backwards)
+
+    fits : Fitting h place (steps - (n + 1)) r
+    fits =
+        let q = S .onward place (d .on) (omega (arith, d .roomy)) in
+        chosen .fits (chosen .found (q .0) (record { near = q .1; roomy = omega (arith, q .2, d .roomy) }))
+
+    pub trail-goes-on :
+        (i : ℕ) → i ≡ indexAfter (h .backwards) start (n + 1) → Within (h .backwards) (length old) start steps → OnTrail (set path i r) r (n + 1)
+    trail-goes-on i is-i within =
+        let w = within-less (h .backwards) (length old) start steps (n + 1) within (omega arith) in
+        rw is-i
+        (record {
+          trail = trail-more (h .width) (h .height) (bitOf h) (h .backwards) old start path n r w (d .trail) (rw (← d .here) (fits .near));
+          here = sym (last-written (h .width) (h .height) (bitOf h) (h .backwards) old start path n r w (d .trail));
+          on = S .stays place r (fits .near) .1;
+          few = omega arith;
+          roomy = fits .roomy;
+        })

@@ -1,0 +1,286 @@
+-- A walk that counts, followed from its far end. The states of the side are fetched from the stack, each in turn the last one; the far end is a pixel
+-- where the walks of all steps count, which there is because the walks from the picked pixel do; and at each turn the trail is written a step nearer.
+use Prim.Native.Nat.{ℕ, zero, suc, _+_, _-_, _*_, _≤_, _<_}
+use mathlib.Core.Path.{_≡_, refl, sym, ap, subst, _∙_}
+use mathlib.Core.Bool.{Bool, true, false, cond, true≢false}
+use mathlib.Core.List.{List}
+use native.Mathlib.Omega.{arith}
+use lib.ListN.{length, getD, set}
+use lib.IntN.{ℤ}
+use Rattle.basics.proofs.Numbers.{rows-fit}
+use Rattle.theory.proofs.LevelSets.{under}
+use Rattle.theory.proofs.Opening.{Levels}
+use Rattle.theory.proofs.Towards.{towards-find}
+use Rattle.rows.specs.Plans.{rowsIn, stateSize, keysSize}
+use Rattle.rows.specs.Runs.{Between}
+use Rattle.states.specs.States.{Holds}
+use Rattle.states.specs.Stacks.{Sequence, Stacked, StackFits, Fetched, lastMark}
+use Rattle.rows.specs.declared.plan.Plan.{Plan}
+use Rattle.states.specs.declared.stack.Stack.{Stack}
+use Rattle.directions.specs.Numbers.{numberAt, placeKept, keysBy}
+use Rattle.directions.proofs.TracePlans.{TraceRoomy}
+use Rattle.tracing.specs.Scans.{Sound, bitOf, keyOf}
+use Rattle.tracing.specs.Sights.{Seen, seenAt}
+use Rattle.tracing.specs.Following.{Leads, Within, Trail, indexAfter, lowAlong, Tells, storedAt, Picked, OfSteps, StepTo, Stands, Kept}
+use Rattle.tracing.specs.declared.follow.Stand.{Stand}
+use Rattle.tracing.specs.declared.scan.Scan.{Scan}
+use Rattle.tracing.specs.declared.sight.Sight.{Sight}
+use Rattle.tracing.proofs.Inward.{Inward, inward-nearer, inward-trail, inward-few}
+use Rattle.tracing.proofs.Picking.{picked-held}
+use Rattle.tracing.proofs.Modes.{keys-bounded}
+use Rattle.tracing.proofs.Sighting.{sight-planes, sight-keys, sight-sequence}
+use Rattle.tracing.proofs.SeenLaws.{seen-first, seen-row}
+use Rattle.tracing.proofs.Nearing.{placeOf, withGaps, stand-picked, step-wanted, gap-left, nearer-stands, nearer-place}
+
+-- ---- the stack
+
+fewer-states : (p : Plan) (keys : ℕ → ℕ) (n k : ℕ) (f : ℕ → ℕ → ℕ → ℕ → ℕ) → k ≤ n → Sequence p keys n f → Sequence p keys k f
+fewer-states p keys n k f h d = record { grown = λ e l. d .grown e (omega arith) }
+
+-- a stack with one mark at least has its last state where the last place begins
+top-state :
+    (work marks : List ℕ) (base : ℕ) (p : Plan) (f : ℕ → ℕ → ℕ → ℕ → ℕ) (depth want : ℕ) → Stacked work marks base p f depth →
+    lastMark marks depth ≡ want → 1 ≤ want → Holds work (base + (depth - 1) * stateSize p) p (want - 1) (f (want - 1))
+unfolding lastMark
+top-state work marks base p f zero want d e some = absurd (omega arith)
+top-state work marks base p f (suc k) want d e some =
+    let less : suc k - 1 ≡ k = omega arith in rw (less, ← e) (d .holds k (omega arith))
+
+module _ (s : Scan) (b : Bool) (plate : List ℤ) (x : ℕ) (r : Sight) (sound : Sound s) (view : Seen s b x r) where
+  -- before the first state is made
+  module _ (old work marks : List ℕ) (stack : Stack) (none : stack .depth ≡ 0) where
+    pub empty-fits :
+        TraceRoomy (r .plan) (length work) → stack .base ≡ keysSize (r .plan) → 1 ≤ stack .places → stack .places ≤ 64 →
+        stack .places * stateSize (r .plan) ≤ length work - stack .base → stack .places ≤ length marks → StackFits (r .plan) stack (length work) (length marks)
+    empty-fits room is-base some few inside in-marks =
+        record {
+          past-keys = omega arith;
+          near = omega (arith, room .keys);
+          some = some;
+          few = few;
+          deep = omega arith;
+          in-work = omega (arith, room .alone);
+          in-marks = in-marks;
+        }
+
+    pub kept-empty :
+        Between (λ (q : ℕ). keysBy (s .mode) plate (placeKept (r .frame) (r .plan .ranked) q)) old work 0 (r .frame .lines * r .frame .across) →
+        StackFits (r .plan) stack (length work) (length marks) → Kept s b plate x r work marks stack
+    kept-empty filled fits =
+        record {
+          keys = sight-keys s sound b x r view plate old work filled;
+          states =
+              record {
+                marked = λ t l. absurd (omega arith);
+                few = λ t l. absurd (omega arith);
+                holds = λ t l. absurd (omega arith);
+              };
+          fits = fits;
+        }
+
+  module _ (work marks work′ marks′ : List ℕ) (stack new : Stack) (want : ℕ) (few : want ≤ r .states) (kept : Kept s b plate x r work marks stack)
+      (same-base : new .base ≡ stack .base) (same-places : new .places ≡ stack .places) (deep : new .depth ≤ stack .places)
+      (fetched : Fetched (r .plan) stack (new .depth) want work marks work′ marks′) where
+    stacked : Stacked work′ marks′ (stack .base) (r .plan) (seenAt s b plate x r) (new .depth)
+    stacked =
+        fetched .is (λ q. keyOf s plate (placeKept (r .frame) (r .plan .ranked) q)) (seenAt s b plate x r) (kept .keys)
+        (fewer-states (r .plan) _ (r .states) want (seenAt s b plate x r) few (sight-sequence s sound b x r view plate)) (kept .states)
+
+    pub kept-fetched : Kept s b plate x r work′ marks′ new
+    kept-fetched =
+        let f = kept .fits in
+        record {
+          keys = record { is = λ q l. fetched .apart .under q (omega (arith, f .past-keys)) ∙ kept .keys .is q l };
+          states = rw same-base stacked;
+          fits =
+              record {
+                past-keys = omega (arith, f .past-keys);
+                near = omega (arith, f .near);
+                some = omega (arith, f .some);
+                few = omega (arith, f .few);
+                deep = omega arith;
+                in-work = rw (same-base, same-places) (omega (arith, f .in-work, fetched .apart .len));
+                in-marks = omega (arith, f .in-marks, fetched .len);
+              };
+        }
+
+    module _ (top : ℕ) (is-top : top ≡ new .base + (new .depth - 1) * stateSize (r .plan)) where
+      top-same : top ≡ stack .base + (new .depth - 1) * stateSize (r .plan)
+      top-same = is-top ∙ rw same-base
+
+      pub top-held : 1 ≤ want → Holds work′ top (r .plan) (want - 1) (seenAt s b plate x r (want - 1))
+      top-held some = rw top-same (top-state work′ marks′ (stack .base) (r .plan) (seenAt s b plate x r) (new .depth) want stacked (fetched .last) some)
+
+      pub top-within : top + stateSize (r .plan) ≤ length work′
+      top-within =
+          omega (
+            arith,
+            top-same,
+            rows-fit (new .depth - 1) 1 (stack .places) (stateSize (r .plan)) (omega (arith, kept .fits .some)),
+            kept .fits .in-work,
+            fetched .apart .len,
+          )
+
+  -- ---- the far end
+
+  wanted-at : (ranked : Bool) (n e m : ℕ) → (ranked ≡ false → e ≡ 0) → cond ranked e m ≡ n → e ≡ cond ranked (n + 1) 1 - 1
+  wanted-at true n e m first h = omega arith
+  wanted-at false n e m first h = first refl
+
+  wanted-few : (ranked : Bool) (n e m : ℕ) → e < r .states → cond ranked e m ≡ n → cond ranked (n + 1) 1 ≤ r .states
+  wanted-few true n e m h k = omega arith
+  wanted-few false n e m h k = omega arith
+
+  line-steps : (ranked : Bool) (e m : ℕ) → {n : ℕ} → ranked ≡ false → cond ranked e m ≡ n → m ≡ n
+  line-steps true e m k h = absurd (true≢false k)
+  line-steps false e m k h = h
+
+  pub wanted-some : (ranked : Bool) (n : ℕ) → 1 ≤ cond ranked (n + 1) 1
+  wanted-some true n = omega arith
+  wanted-some false n = omega arith
+
+  module _ (levels : Levels plate) (t n j : ℕ) (positive : 1 ≤ t) (short : n ≤ s .steps) (few : j ≤ s .gaps)
+      (leads : Leads (s .width) (s .height) (bitOf s) b (keyOf s plate) t (s .spare) n j x) where
+    -- there is one
+    pub record End : Type 0 where
+      pub state : ℕ
+      pub row : ℕ
+      pub pixel : ℕ
+      pub below : state < r .states
+      pub steps : OfSteps (r .plan) n state row pixel
+      pub tells : Tells (seenAt s b plate x r) (r .plan) j t state row pixel
+
+    pub some-end : End
+    unfolding numberAt
+    some-end =
+        let q = towards-find b (s .width) (s .height) (bitOf s) (keyOf s plate) (keys-bounded s plate levels) x n j (leads .on) t positive (leads .counts) in
+        let h = seen-row s sound b x r view (keyOf s plate) n j (q .0) short (q .1) (omega (arith, q .2)) in
+        let c = h .3 in
+        record {
+          state = c .state;
+          row = c .row;
+          pixel = h .1;
+          below = c .state-below;
+          steps = (c .steps, λ k. seen-first s sound b x r view (c .state) (c .state-below) k);
+          tells =
+              record {
+                row = c .row-below;
+                low = c .low;
+                high = c .high;
+                counts =
+                    rw (c .steps, c .place, h .2) (q .2);
+              };
+        }
+
+    pub end-few : cond (r .plan .ranked) (n + 1) 1 ≤ r .states
+    end-few = wanted-few (r .plan .ranked) n (some-end .state) (some-end .row) (some-end .below) (some-end .steps .0)
+
+    pub end-row : r .plan .ranked ≡ false → n < rowsIn (r .plan) 0
+    end-row k =
+        let c = some-end in
+        let m= : c .row ≡ n = line-steps (r .plan .ranked) (c .state) (c .row) k (c .steps .0) in
+        let e= : c .state ≡ 0 = c .steps .1 k in
+        omega (arith, m=, subst (λ (e : ℕ). c .row < rowsIn (r .plan) e) e= (c .tells .row))
+
+    -- what is picked
+    pub end-stands :
+        (work : List ℕ) (top want : ℕ) (end : Stand) → want ≡ cond (r .plan .ranked) (n + 1) 1 →
+        Holds work top (r .plan) (want - 1) (seenAt s b plate x r (want - 1)) →
+        Picked (OfSteps (r .plan) n) (storedAt work top (r .plan)) (r .plan) j t end → Stands s b plate x r t n end
+    end-stands work top want end is-want held picked =
+        let c = some-end in
+        let p =
+        picked-held work top (r .plan) (seenAt s b plate x r) j t (omega (arith, sight-planes s sound b x r view)) (OfSteps (r .plan) n) end
+        (λ e m z row low high a.
+        let e= : e ≡ want - 1 = wanted-at (r .plan .ranked) n e m (a .1) (a .0) ∙ ap (λ (k : ℕ). k - 1) (sym is-want) in rw e= held)
+        picked in
+        let f = p .fits (p .found (c .state) (c .row) (c .pixel) (c .steps) (c .tells)) in
+        let e= : end .state ≡ cond (r .plan .ranked) (n + 1) 1 - 1 = wanted-at (r .plan .ranked) n (end .state) (end .row) (f .0 .1) (f .0 .0) in
+        record {
+          state = omega (arith, e=, end-few, wanted-some (r .plan .ranked) n);
+          steps = f .0 .0;
+          gaps = omega (arith, p .is-gaps);
+          tells = rw (p .is-gaps) (f .1);
+        }
+
+  -- ---- a step nearer
+
+  nearer-some : (ranked : Bool) (e m k : ℕ) → cond ranked e m ≡ suc k → 1 ≤ cond ranked e 1
+  nearer-some true e m k h = omega arith
+  nearer-some false e m k h = omega arith
+
+  nearer-few : (ranked : Bool) (e : ℕ) → e < r .states → cond ranked e 1 ≤ r .states
+  nearer-few true e h = omega arith
+  nearer-few false e h = omega arith
+
+  module _ (levels : Levels plate) (t : ℕ) (positive : 1 ≤ t) (old : List ℕ) (start m gaps : ℕ) (within : Within b (length old) start m)
+      (path : List ℕ) (stand : Stand) where
+    pub stand-wanted : (n : ℕ) → Stands s b plate x r t n stand → cond (r .plan .ranked) (stand .state) 1 ≤ r .states
+    stand-wanted n d = nearer-few (r .plan .ranked) (stand .state) (d .state)
+
+    pub stand-some : (n : ℕ) → Stands s b plate x r t n stand → 0 < n → 1 ≤ cond (r .plan .ranked) (stand .state) 1
+    stand-some zero d l = absurd (omega arith)
+    stand-some (suc n) d l = nearer-some (r .plan .ranked) (stand .state) (stand .row) n (d .steps)
+
+    module _ (k : ℕ) (d : Stands s b plate x r t (suc k) stand) (h : suc k ≤ m)
+        (inward : Inward (s .width) (s .height) (bitOf s) b (keyOf s plate) t old start m gaps path (suc k) (placeOf r stand) (stand .gaps))
+        (left : ℕ) (is-left : left ≡ stand .gaps - under t (keyOf s plate (placeOf r stand))) (work : List ℕ) (top want : ℕ)
+        (is-want : want ≡ cond (r .plan .ranked) (stand .state) 1)
+        (held : Holds work top (r .plan) (want - 1) (seenAt s b plate x r (want - 1))) (to : Stand)
+        (picked : Picked (StepTo (r .plan) (withGaps stand left)) (storedAt work top (r .plan)) (r .plan) left t to) where
+      seen-picked : Picked (StepTo (r .plan) (withGaps stand left)) (seenAt s b plate x r) (r .plan) left t to
+      seen-picked =
+          picked-held work top (r .plan) (seenAt s b plate x r) left t (omega (arith, d .gaps, sight-planes s sound b x r view))
+          (StepTo (r .plan) (withGaps stand left)) to
+          (λ e n z row low high step.
+          let e= : e ≡ want - 1 =
+          step-wanted s b plate x r sound levels view t positive (suc k) stand d left e n z row low high step ∙ ap (λ (i : ℕ). i - 1) (sym is-want) in
+          rw e= held)
+          picked
+
+      walk-stands : Stands s b plate x r t k to
+      walk-stands = nearer-stands s b plate x r sound levels view t positive (suc k) stand d k refl left is-left to seen-picked
+
+      walk-inward :
+          (i place : ℕ) → i ≡ indexAfter b start (suc k) → place ≡ placeOf r stand →
+          Inward (s .width) (s .height) (bitOf s) b (keyOf s plate) t old start m gaps (set path i place) k (placeOf r to) (to .gaps)
+      walk-inward i place is-i is-place =
+          rw (is-i, is-place)
+          (inward-nearer (s .width) (s .height) (bitOf s) b (keyOf s plate) t old start m gaps within path k (placeOf r stand) (stand .gaps)
+          (placeOf r to) (to .gaps) h inward (nearer-place s b plate x r sound levels view t positive (suc k) stand d k refl left is-left to seen-picked)
+          (omega (arith, seen-picked .is-gaps, gap-left s b plate x r sound levels view t positive (suc k) stand d k refl)))
+
+    pub stand-spends : (n : ℕ) → 0 < n → Stands s b plate x r t n stand → under t (keyOf s plate (placeOf r stand)) ≤ stand .gaps
+    stand-spends zero l d = absurd (omega arith)
+    stand-spends (suc k) l d = gap-left s b plate x r sound levels view t positive (suc k) stand d k refl
+
+    -- the same with any number of steps left
+    pub walk-on :
+        (n : ℕ) → 0 < n → Stands s b plate x r t n stand → n ≤ m →
+        Inward (s .width) (s .height) (bitOf s) b (keyOf s plate) t old start m gaps path n (placeOf r stand) (stand .gaps) →
+        (left : ℕ) → left ≡ stand .gaps - under t (keyOf s plate (placeOf r stand)) → (work : List ℕ) (top want : ℕ) →
+        want ≡ cond (r .plan .ranked) (stand .state) 1 → Holds work top (r .plan) (want - 1) (seenAt s b plate x r (want - 1)) → (to : Stand) →
+        Picked (StepTo (r .plan) (withGaps stand left)) (storedAt work top (r .plan)) (r .plan) left t to →
+        (i place : ℕ) → i ≡ indexAfter b start n → place ≡ placeOf r stand →
+        Stands s b plate x r t (n - 1) to
+        × Inward (s .width) (s .height) (bitOf s) b (keyOf s plate) t old start m gaps (set path i place) (n - 1) (placeOf r to) (to .gaps)
+    walk-on zero l d h inward left is-left work top want is-want held to picked i place is-i is-place = absurd (omega arith)
+    walk-on (suc k) l d h inward left is-left work top want is-want held to picked i place is-i is-place =
+        let e : suc k - 1 ≡ k = omega arith in
+        rw e (
+          walk-stands k d h inward left is-left work top want is-want held to picked,
+          walk-inward k d h inward left is-left work top want is-want held to picked i place is-i is-place,
+        )
+
+    -- ---- the picked pixel is come to
+
+    module _ (n : ℕ) (none : n ≡ 0) (d : Stands s b plate x r t n stand) (picked : x ≡ getD old start 0)
+        (inward : Inward (s .width) (s .height) (bitOf s) b (keyOf s plate) t old start m gaps path n (placeOf r stand) (stand .gaps)) where
+      pub walk-ends :
+          Trail (s .width) (s .height) (bitOf s) b old path start m × (lowAlong b (keyOf s plate) t path start (m + 1) ≤ gaps)
+      walk-ends =
+          let l = stand-picked s b plate x r sound levels view t positive n stand d none in
+          let i = rw none at inward in (
+            inward-trail (s .width) (s .height) (bitOf s) b (keyOf s plate) t old start m gaps within path (placeOf r stand) (stand .gaps) i (l .0 ∙ picked),
+            inward-few (s .width) (s .height) (bitOf s) b (keyOf s plate) t old start m gaps within path (placeOf r stand) (stand .gaps) i (l .0 ∙ picked) (l .1),
+          )

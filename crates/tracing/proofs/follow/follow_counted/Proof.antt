@@ -1,0 +1,257 @@
+-- `follow_counted` meets its contract: the keys are laid out, the state with the walks of all steps is made, and from a far end that is found there the
+-- path is written.
+use Prim.Native.Nat.{ℕ, _+_, _*_, _≤_}
+use mathlib.Core.Path.{_≡_, refl, sym, _∙_}
+use native.Mathlib.Omega.{arith}
+use borrow.Author.Needs.{needs}
+use lib.ListN.{length, getD, replicate}
+use Rattle.rows.specs.Plans.{halfOf}
+use Rattle.rows.specs.declared.plan.Plan.{Plan}
+use Rattle.states.specs.declared.stack.Stack.{Stack}
+use Rattle.states.proofs.StackLaws.{row-below, state-below}
+use Rattle.tracing.specs.Following.{Kept, HeldFit}
+use Rattle.tracing.proofs.Sighting.{sight-planes, sight-keys-size, sight-sound, sight-room, sight-states-few, sight-kept}
+use Rattle.tracing.proofs.Walking.{empty-fits, kept-empty, kept-fetched, top-held, top-within, wanted-some, end-few, end-row, end-stands}
+use Rattle.tracing.proofs.follow.follow_counted.Statement.{statement}
+use Rattle.tracing.proofs.follow.follow_counted.Tie as tie
+
+-- before the first state is made the stack is empty
+start-kept :
+    (c : tie.After-wanted) →
+    let a = c .before .before .before .before .before .before .before .before .before .before .before .before .before .before .before .before .before .before .before .args in
+    let v = c .before .before .before .before .before .before .before .before .before .before .before .before .before .before .before .sight-of in
+    Kept (a .scan) (a .backwards) (a .plate .now) (getD (a .path .now) (a .walk .start) 0) (v .result) (c .before .before .before .before .before .before .before .before .before .before .before .before .fill-keys .last .0) (replicate 64 0)
+    (record { base = v .result .plan .lines * v .result .plan .across; places = c .before .before .before .before .before .before .places-in .result; depth = 0 })
+start-kept c =
+    let s = c .before .before .before .before .before .before .before .before .before .before .before .before .before .before .before .before .before .before .before in
+    let a = s .args in
+    let v = c .before .before .before .before .before .before .before .before .before .before .before .before .before .before .before .sight-of in
+    let x = getD (a .path .now) (a .walk .start) 0 in
+    let k = c .before .before .before .before .before .before .before .before .before .before .before .before .fill-keys in
+    let o = c .before .before .before .before .before .before .places-in .ensures in
+    let room = sight-room (a .scan) (s .pre .0 .0) (a .backwards) x (v .result) (v .ensures) (length (k .last .0)) (omega (arith, s .pre .1 .0 .1, k .ensures .0 .len)) in
+    let stack : Stack = record { base = v .result .plan .lines * v .result .plan .across; places = c .before .before .before .before .before .before .places-in .result; depth = 0 } in
+    kept-empty (a .scan) (a .backwards) (a .plate .now) x (v .result) (s .pre .0 .0) (v .ensures) (a .work .now) (k .last .0) (replicate 64 0) stack refl (k .ensures .0)
+    (empty-fits (a .scan) (a .backwards) (a .plate .now) x (v .result) (s .pre .0 .0) (v .ensures) (a .work .now) (k .last .0) (replicate 64 0) stack refl room refl (o .0) (o .1)
+    (o .2) (o .1))
+
+-- the state that is wanted is one of the side's
+few-wanted : (c : tie.After-wanted) → c .wanted .result ≤ c .before .before .before .before .before .before .before .before .before .before .before .before .before .before .before .sight-of .result .states
+few-wanted c =
+    let s = c .before .before .before .before .before .before .before .before .before .before .before .before .before .before .before .before .before .before .before in
+    let a = s .args in
+    let v = c .before .before .before .before .before .before .before .before .before .before .before .before .before .before .before .sight-of in
+    omega (
+      arith,
+      c .wanted .ensures,
+      end-few (a .scan) (a .backwards) (a .plate .now) (getD (a .path .now) (a .walk .start) 0) (v .result) (s .pre .0 .0) (v .ensures) (s .pre .1 .1 .0) (a .walk .key) (a .walk .steps)
+          (a .walk .gaps) (s .pre .0 .1) (s .pre .1 .0 .2) (s .pre .1 .0 .3) (s .pre .1 .1 .1 .1 .1),
+    )
+
+held-fit : (p : Plan) (held below : ℕ) → halfOf p + halfOf p ≤ 18612 → p .across + 7 ≤ 1032 → held ≡ 18612 → below ≡ 1032 → HeldFit p held below
+held-fit p held below h k eh eb = record { halves = omega arith; few = omega arith; row = omega arith }
+
+mul-sight-of : tie.Need-mul-sight-of
+mul-sight-of c = search needs
+
+slice-read-sight-of : tie.Need-slice-read-sight-of
+slice-read-sight-of c = search needs
+
+sight-of-requires : tie.Need-sight-of-requires
+sight-of-requires c κs = search needs
+
+fill-keys-requires : tie.Need-fill-keys-requires
+fill-keys-requires c κs =
+    let s = c .before .before .before .before .before .before in
+    let a = s .args in
+    let v = c .before .before .sight-of in
+    let x = getD (a .path .now) (a .walk .start) 0 in
+    let room = sight-room (a .scan) (s .pre .0 .0) (a .backwards) x (v .result) (v .ensures) (length (a .work .now)) (s .pre .1 .0 .1) in
+    let size = sight-keys-size (a .scan) (s .pre .0 .0) (a .backwards) x (v .result) (v .ensures) in (
+      sight-kept (a .scan) (s .pre .0 .0) (a .backwards) x (v .result) (v .ensures),
+      (omega (arith, room .alone, size), s .pre .1 .0 .0 ∙ sym (v .ensures .framed .area)),
+    )
+
+mul-base : tie.Need-mul-base
+mul-base c =
+    let s = c .before .before .before .before .before .before .before .before .before .before in
+    let a = s .args in
+    let v = c .before .before .before .before .before .before .sight-of in
+    omega (arith, sight-room (a .scan) (s .pre .0 .0) (a .backwards) (getD (a .path .now) (a .walk .start) 0) (v .result) (v .ensures) (length (a .work .now)) (s .pre .1 .0 .1) .keys)
+
+sub-places-in : tie.Need-sub-places-in
+sub-places-in c =
+    let s = c .before .before .before .before .before .before .before .before .before .before in
+    let a = s .args in
+    let v = c .before .before .before .before .before .before .sight-of in
+    omega (
+      arith,
+      sight-room (a .scan) (s .pre .0 .0) (a .backwards) (getD (a .path .now) (a .walk .start) 0) (v .result) (v .ensures) (length (a .work .now)) (s .pre .1 .0 .1) .alone,
+      c .before .before .before .fill-keys .ensures .0 .len,
+    )
+
+mul-places-in : tie.Need-mul-places-in
+mul-places-in c =
+    let s = c .before .before .before .before .before .before .before .before .before .before .before in
+    let a = s .args in
+    let v = c .before .before .before .before .before .before .before .sight-of in
+    omega (arith, row-below (v .result .plan) (sight-sound (a .scan) (s .pre .0 .0) (a .backwards) (getD (a .path .now) (a .walk .start) 0) (v .result) (v .ensures)))
+
+mul-places-in-2 : tie.Need-mul-places-in-2
+mul-places-in-2 c =
+    let s = c .before .before .before .before .before .before .before .before .before .before .before .before in
+    let a = s .args in
+    let v = c .before .before .before .before .before .before .before .before .sight-of in
+    omega (arith, state-below (v .result .plan) (sight-sound (a .scan) (s .pre .0 .0) (a .backwards) (getD (a .path .now) (a .walk .start) 0) (v .result) (v .ensures)))
+
+places-in-requires : tie.Need-places-in-requires
+places-in-requires c κs =
+    let s = c .before .before .before .before .before .before .before .before .before .before .before .before in
+    let a = s .args in
+    let v = c .before .before .before .before .before .before .before .before .sight-of in
+    let room = sight-room (a .scan) (s .pre .0 .0) (a .backwards) (getD (a .path .now) (a .walk .start) 0) (v .result) (v .ensures) (length (a .work .now)) (s .pre .1 .0 .1) in
+    (room .some, omega (arith, room .alone, c .before .before .before .before .before .fill-keys .ensures .0 .len))
+
+slice-aggregate-fetch : tie.Need-slice-aggregate-fetch
+slice-aggregate-fetch c = search needs
+
+slice-aggregate-fetch-2 : tie.Need-slice-aggregate-fetch-2
+slice-aggregate-fetch-2 c = search needs
+
+slice-aggregate-fetch-3 : tie.Need-slice-aggregate-fetch-3
+slice-aggregate-fetch-3 c = search needs
+
+add-wanted : tie.Need-add-wanted
+add-wanted c =
+    let s = c .before .before .before .before .before .before .before .before .before .before .before .before .before .before .before .before .before .before in omega (arith, s .pre .1 .0 .2, s .pre .0 .0 .few-steps)
+
+wanted-requires : tie.Need-wanted-requires
+wanted-requires c κs = search needs
+
+fetch-requires : tie.Need-fetch-requires
+fetch-requires c κs =
+    let s = c .before .before .before .before .before .before .before .before .before .before .before .before .before .before .before .before .before .before .before in
+    let a = s .args in
+    let v = c .before .before .before .before .before .before .before .before .before .before .before .before .before .before .before .sight-of in
+    let x = getD (a .path .now) (a .walk .start) 0 in
+    let room = sight-room (a .scan) (s .pre .0 .0) (a .backwards) x (v .result) (v .ensures) (length (a .work .now)) (s .pre .1 .0 .1) in (
+      sight-sound (a .scan) (s .pre .0 .0) (a .backwards) x (v .result) (v .ensures),
+      (
+        (start-kept c .fits, omega (arith, few-wanted c, sight-states-few (a .scan) (s .pre .0 .0) (a .backwards) x (v .result) (v .ensures))),
+        (room .halves, omega arith, room .row),
+      ),
+    )
+
+top-of-requires : tie.Need-top-of-requires
+top-of-requires c κs =
+    let s = c .before .before .before .before .before .before .before .before .before .before .before .before .before .before .before .before .before .before .before .before .before .before .before .before .before in
+    let a = s .args in
+    let v = c .before .before .before .before .before .before .before .before .before .before .before .before .before .before .before .before .before .before .before .before .before .sight-of in
+    let f = c .before .before .before .before .before .fetch in
+    let fits = start-kept (c .before .before .before .before .before .before) .fits in (
+      sight-sound (a .scan) (s .pre .0 .0) (a .backwards) (getD (a .path .now) (a .walk .start) 0) (v .result) (v .ensures),
+      omega (arith, f .ensures .0 .2, fits .few),
+      omega (arith, f .ensures .0 .0, fits .near),
+    )
+
+find-end-requires : tie.Need-find-end-requires
+find-end-requires c κs =
+    let s = c .before .before .before .before .before .before .before .before .before .before .before .before .before .before .before .before .before .before .before .before .before .before .before .before .before .before .before in
+    let a = s .args in
+    let v = c .before .before .before .before .before .before .before .before .before .before .before .before .before .before .before .before .before .before .before .before .before .before .before .sight-of in
+    let x = getD (a .path .now) (a .walk .start) 0 in
+    let f = c .before .before .before .before .before .before .before .fetch in (
+      sight-sound (a .scan) (s .pre .0 .0) (a .backwards) x (v .result) (v .ensures),
+      (
+        omega (arith, s .pre .1 .0 .2, s .pre .0 .0 .few-steps),
+        end-row (a .scan) (a .backwards) (a .plate .now) x (v .result) (s .pre .0 .0) (v .ensures) (s .pre .1 .1 .0) (a .walk .key) (a .walk .steps) (a .walk .gaps) (s .pre .0 .1) (s .pre .1 .0 .2) (s .pre .1 .0 .3) (s .pre .1 .1 .1 .1 .1),
+        omega (arith, s .pre .1 .0 .3, sight-planes (a .scan) (s .pre .0 .0) (a .backwards) x (v .result) (v .ensures)),
+        top-within (a .scan) (a .backwards) (a .plate .now) x (v .result) (s .pre .0 .0) (v .ensures) _ _ (f .last .0) (f .last .1 .0) _ (f .result) (c .before .before .before .before .before .before .before .before .wanted .result) (few-wanted (c .before .before .before .before .before .before .before .before))
+            (start-kept (c .before .before .before .before .before .before .before .before)) (f .ensures .0 .0) (f .ensures .0 .1) (f .ensures .0 .2) (f .ensures .1 .0) (c .before .top-of .result) (c .before .top-of .ensures),
+      ),
+    )
+
+slice-aggregate-walk-in : tie.Need-slice-aggregate-walk-in
+slice-aggregate-walk-in c = search needs
+
+slice-aggregate-walk-in-2 : tie.Need-slice-aggregate-walk-in-2
+slice-aggregate-walk-in-2 c = search needs
+
+slice-aggregate-walk-in-3 : tie.Need-slice-aggregate-walk-in-3
+slice-aggregate-walk-in-3 c = search needs
+
+walk-in-requires : tie.Need-walk-in-requires
+walk-in-requires c κs =
+    let s = c .before .before .before .before .before .before .before .before .before .before .before .before .before .before .before .before .before .before .before .before .before .before .before .before .before .before .before .before .before .before .before .before .before in
+    let a = s .args in
+    let v = c .before .before .before .before .before .before .before .before .before .before .before .before .before .before .before .before .before .before .before .before .before .before .before .before .before .before .before .before .before .sight-of in
+    let x = getD (a .path .now) (a .walk .start) 0 in
+    let f = c .before .before .before .before .before .before .before .before .before .before .before .before .before .fetch in
+    let w = c .before .before .before .before .before .before .before .before .before .before .before .before .before .before .wanted in
+    let e = c .before .before .before .before .before .find-end in
+    let room = sight-room (a .scan) (s .pre .0 .0) (a .backwards) x (v .result) (v .ensures) (length (a .work .now)) (s .pre .1 .0 .1) in
+    let kept =
+    kept-fetched (a .scan) (a .backwards) (a .plate .now) x (v .result) (s .pre .0 .0) (v .ensures) _ _ (f .last .0) (f .last .1 .0) _ (f .result) (w .result) (few-wanted (c .before .before .before .before .before .before .before .before .before .before .before .before .before .before))
+    (start-kept (c .before .before .before .before .before .before .before .before .before .before .before .before .before .before)) (f .ensures .0 .0) (f .ensures .0 .1) (f .ensures .0 .2) (f .ensures .1 .0) in
+    let held =
+    top-held (a .scan) (a .backwards) (a .plate .now) x (v .result) (s .pre .0 .0) (v .ensures) _ _ (f .last .0) (f .last .1 .0) _ (f .result) (w .result) (few-wanted (c .before .before .before .before .before .before .before .before .before .before .before .before .before .before))
+    (start-kept (c .before .before .before .before .before .before .before .before .before .before .before .before .before .before)) (f .ensures .0 .0) (f .ensures .0 .1) (f .ensures .0 .2) (f .ensures .1 .0) (c .before .before .before .before .before .before .before .top-of .result) (c .before .before .before .before .before .before .before .top-of .ensures)
+    (omega (arith, w .ensures, wanted-some (a .scan) (a .backwards) (a .plate .now) x (v .result) (s .pre .0 .0) (v .ensures) (v .result .plan .ranked) (a .walk .steps))) in (
+      (s .pre .0 .0, s .pre .1 .0 .0, s .pre .1 .1 .0, s .pre .0 .1),
+      (
+        (s .pre .1 .1 .1 .0 .0, s .pre .1 .1 .1 .0 .1, s .pre .1 .0 .2),
+        (
+          s .pre .1 .1 .1 .1 .0,
+          (
+            (s .pre .1 .1 .1 .1 .1 .on, v .ensures),
+            (
+              kept,
+              (
+                (held-fit (v .result .plan) _ _ (room .halves) (room .row) (f .ensures .1 .1 .0) (f .ensures .1 .1 .1), e .ensures .is-gaps),
+                end-stands (a .scan) (a .backwards) (a .plate .now) x (v .result) (s .pre .0 .0) (v .ensures) (s .pre .1 .1 .0) (a .walk .key) (a .walk .steps) (a .walk .gaps) (s .pre .0 .1)
+                    (s .pre .1 .0 .2) (s .pre .1 .0 .3) (s .pre .1 .1 .1 .1 .1) (f .last .0) (c .before .before .before .before .before .before .before .top-of .result) (w .result) (e .result) (w .ensures) held (e .ensures),
+              ),
+            ),
+          ),
+        ),
+      ),
+    )
+
+same-length : tie.Need-same-length
+same-length c = search needs
+
+same-length-2 : tie.Need-same-length-2
+same-length-2 c =
+    c .before .before .before .before .before .before .before .walk-in .kept .1 .0 ∙ c .before .before .before .before .before .before .before .before .before .before .before .before .before .before .before .before .before .before .before .before .before .fetch .kept .0 ∙ c .before .before .before .before .before .before .before .before .before .before .before .before .before .before .before .before .before .before .before .before .before .before .before .before .before .before .before .before .before .before .before .before .before .before .fill-keys .ensures .0 .len
+
+returns : tie.Need-returns
+returns c = search needs
+
+pub follow-counted-spec : {M : Type 1} → statement M
+follow-counted-spec =
+    tie.close
+    (tie.spec
+    mul-sight-of
+    slice-read-sight-of
+    sight-of-requires
+    fill-keys-requires
+    mul-base
+    sub-places-in
+    mul-places-in
+    mul-places-in-2
+    places-in-requires
+    slice-aggregate-fetch
+    slice-aggregate-fetch-2
+    slice-aggregate-fetch-3
+    add-wanted
+    wanted-requires
+    fetch-requires
+    top-of-requires
+    find-end-requires
+    slice-aggregate-walk-in
+    slice-aggregate-walk-in-2
+    slice-aggregate-walk-in-3
+    walk-in-requires
+    same-length
+    same-length-2
+    returns)

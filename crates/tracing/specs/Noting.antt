@@ -1,0 +1,51 @@
+-- The best numbers of states, noted by the steps of their rows. A maximum is told by what it is not below, and by where it comes from. These
+-- definitions serve contracts inside the engine only: no public contract cites them.
+use Prim.Native.Nat.{ℕ, _+_, _*_, _≤_, _<_}
+use mathlib.Core.Path.{_≡_}
+use mathlib.Core.List.{List}
+use mathlib.Core.Logic.{_⊎_}
+use lib.ListN.{length, getD}
+use Rattle.rows.specs.Plans.{rowsIn, rowLo, rowHi, rowSize}
+use Rattle.rows.specs.declared.plan.Plan.{Plan}
+use Rattle.directions.specs.Numbers.{stepsAt}
+
+-- r is the highest of v and of f at the places from lo below hi
+pub record Highest (f : ℕ → ℕ) (lo hi v r : ℕ) : Type 0 where
+  pub not-below : v ≤ r
+  pub best : (x : ℕ) → lo ≤ x → x < hi → f x ≤ r
+  pub source : (r ≡ v) ⊎ ((x : ℕ) × (lo ≤ x) × (x < hi) × (r ≡ f x))
+
+-- the notes have risen to all numbers that belong to a place, and none further than one of them
+pub record Lifted (of : ℕ → ℕ → Type 0) (old new : List ℕ) : Type 0 where
+  pub grown : (q : ℕ) → getD old q 0 ≤ getD new q 0
+  pub reached : (q v : ℕ) → of q v → v ≤ getD new q 0
+  pub source : (q : ℕ) → (getD new q 0 ≡ getD old q 0) ⊎ of q (getD new q 0)
+  pub len : length new ≡ length old
+
+-- v is the number of a pixel from lo below hi in one of the first planes, which are noted from `to` on
+pub record FromRow (f : ℕ → ℕ → ℕ) (lo hi to planes q v : ℕ) : Type 0 where
+  pub plane : ℕ
+  pub pixel : ℕ
+  pub plane-below : plane < planes
+  pub low : lo ≤ pixel
+  pub high : pixel < hi
+  pub at : q ≡ to + plane
+  pub is : v ≡ f plane pixel
+
+-- the numbers of a row that begins at a place of the work buffer
+abbrev pub rowCells : List ℕ → ℕ → ℕ → ℕ → ℕ → ℕ
+rowCells work at across j x = getD work (at + (j * across + x)) 0
+
+-- v is a number of one of the first rows of state e, which are noted by their steps
+pub record FromState (p : Plan) (f : ℕ → ℕ → ℕ → ℕ) (to e rows q v : ℕ) : Type 0 where
+  pub row : ℕ
+  pub row-below : row < rows
+  pub number : FromRow (f row) (rowLo p e row) (rowHi p e row) (to + stepsAt p e row * p .planes) (p .planes) q v
+
+-- the numbers of a state at a place of the work buffer
+abbrev pub stateCells : List ℕ → ℕ → Plan → ℕ → ℕ → ℕ → ℕ
+stateCells work base p m j x = getD work (base + (m * rowSize p + (j * p .across + x))) 0
+
+-- every row of state e has its notes in a list of this size
+pub record NotesFit (p : Plan) (e to size : ℕ) : Type 0 where
+  pub fits : (m : ℕ) → m < rowsIn p e → to + stepsAt p e m * p .planes + p .planes ≤ size
