@@ -77,8 +77,9 @@
  * without const) overlaps nothing else that is lent to the same call.
  *
  * The library allocates nothing, keeps nothing between calls, and touches no memory but what it is
- * lent. Calls may run at the same time in several threads, as long as none writes what another is
- * lent. Work, path and result buffers need not be cleared: what they held never changes an answer.
+ * lent and its own stack: a filter takes up to 176 KB of it, a trace up to 80 KB, whatever the plate.
+ * Calls may run at the same time in several threads, as long as none writes what another is lent. Work,
+ * path and result buffers need not be cleared: what they held never changes an answer.
  */
 #ifndef DIILVAK_H
 #define DIILVAK_H
