@@ -1,11 +1,13 @@
 -- The plan of the filter and the number of its states, case by case: straight, by ranks, and by single lines.
 use Prim.Native.Nat.{ℕ, _+_, _≤_}
-use mathlib.Core.Path.{_≡_}
-use mathlib.Core.Bool.{Bool, true, false}
+use mathlib.Core.Path.{_≡_, refl}
+use mathlib.Core.Bool.{Bool, true, false, cond}
 use native.Mathlib.Omega.{arith}
 use Rattle.frames.specs.declared.frame.Frame.{Frame}
+use Rattle.rows.specs.declared.plan.Plan.{Plan}
 use Rattle.directions.specs.Plans.{straightPlan, rankedPlan, stillPlan, wholeArea, AreaOf, spareOf, byRanks, filterPlan, filterStates}
 
+-- the whole frame is an area of it
 pub whole-area : (r : Frame) → 1 ≤ r .lines → 1 ≤ r .across → AreaOf r (wholeArea r)
 whole-area r h k = record { high = omega arith; low = omega arith; wide = omega arith; narrow = omega arith }
 
@@ -37,3 +39,24 @@ module _ (r : Frame) (L : ℕ) where
       pub plan-still : byRanks r L ≡ false → stillPlan r by-rows back L planes ≡ filterPlan r by-rows back L planes
       unfolding filterPlan
       plan-still b = rw (b, d)
+
+-- ---- all three at once
+
+-- what is told of all three kinds is told of the one that two tests choose
+choice : (P : (Bool → Plan) → ℕ → Type 0) (d k : Bool) (a b c : Bool → Plan) (x y z : ℕ) →
+    (d ≡ true → k ≡ true → P a x) → (d ≡ true → k ≡ false → P b y) → (d ≡ false → P c z) →
+    P (λ (back : Bool). cond d (cond k (a back) (b back)) (c back)) (cond d (cond k x y) z)
+choice P true true a b c x y z ranked still straight = ranked refl refl
+choice P true false a b c x y z ranked still straight = still refl refl
+choice P false k a b c x y z ranked still straight = straight refl
+
+-- what holds of the three kinds of plans, on either side, holds of the filter's
+module _ (r : Frame) (L : ℕ) where
+  module _ (by-rows : Bool) (planes : ℕ) where
+    pub filter-choice : (P : (Bool → Plan) → ℕ → Type 0) →
+        (r .diagonal ≡ true → byRanks r L ≡ true → P (λ (back : Bool). rankedPlan r by-rows back (wholeArea r) (spareOf r L + 1) planes) L) →
+        (r .diagonal ≡ true → byRanks r L ≡ false → P (λ (back : Bool). stillPlan r by-rows back L planes) (r .lines)) →
+        (r .diagonal ≡ false → P (λ (back : Bool). straightPlan r back (wholeArea r) L planes) (spareOf r L + 1)) →
+        P (λ (back : Bool). filterPlan r by-rows back L planes) (filterStates r L)
+    unfolding filterPlan filterStates
+    filter-choice P ranked still straight = choice P (r .diagonal) (byRanks r L) _ _ _ _ _ _ ranked still straight

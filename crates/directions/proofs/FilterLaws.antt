@@ -15,19 +15,12 @@ use Rattle.frames.specs.declared.frame.Frame.{Frame}
 use Rattle.rows.specs.Plans.{lineOf, firstIn, pastIn, orderOf, rowLo, rowHi, lineAt, rowsIn, Sound}
 use Rattle.states.specs.Sweeps.{Opposite}
 use Rattle.rows.specs.declared.plan.Plan.{Plan}
-use Rattle.directions.specs.Plans.{straightPlan, stillPlan, rankedPlan, filterPlan, filterStates, byRanks, spareOf, wholeArea, AreaOf, FrameOf}
+use Rattle.directions.specs.Plans.{straightPlan, stillPlan, rankedPlan, filterPlan, filterStates, byRanks, spareOf, wholeArea, FrameOf}
+use Rattle.directions.proofs.ChoiceLaws.{whole-area, filter-choice}
 use Rattle.directions.proofs.PlanLaws.{whole-lo, whole-hi, still-rows, straight-sound, still-sound}
 use Rattle.directions.proofs.RankedPlans.{ranked-sound}
 
 -- ---- which plan it is
-
--- what is told of all three kinds is told of the one that two tests choose
-choice : (P : (Bool → Plan) → ℕ → Type 0) (d k : Bool) (a b c : Bool → Plan) (x y z : ℕ) →
-    (d ≡ true → k ≡ true → P a x) → (d ≡ true → k ≡ false → P b y) → (d ≡ false → P c z) →
-    P (λ (back : Bool). cond d (cond k (a back) (b back)) (c back)) (cond d (cond k x y) z)
-choice P true true a b c x y z ranked still straight = ranked refl refl
-choice P true false a b c x y z ranked still straight = still refl refl
-choice P false k a b c x y z ranked still straight = straight refl
 
 module _ (r : Frame) (L : ℕ) where
   pub spare-diagonal : r .diagonal ≡ true → spareOf r L ≡ r .lines + (r .across - 1) - L
@@ -52,15 +45,6 @@ module _ (r : Frame) (L : ℕ) where
         | inl e ↦ inr (leb-false _ _ (rw e at k))
         | inr e ↦ inl (leb-false _ _ e)
       ]
-
-  module _ (by-rows : Bool) (planes : ℕ) where
-    pub filter-choice : (P : (Bool → Plan) → ℕ → Type 0) →
-        (r .diagonal ≡ true → byRanks r L ≡ true → P (λ (back : Bool). rankedPlan r by-rows back (wholeArea r) (spareOf r L + 1) planes) L) →
-        (r .diagonal ≡ true → byRanks r L ≡ false → P (λ (back : Bool). stillPlan r by-rows back L planes) (r .lines)) →
-        (r .diagonal ≡ false → P (λ (back : Bool). straightPlan r back (wholeArea r) L planes) (spareOf r L + 1)) →
-        P (λ (back : Bool). filterPlan r by-rows back L planes) (filterStates r L)
-    unfolding filterPlan filterStates
-    filter-choice P ranked still straight = choice P (r .diagonal) (byRanks r L) _ _ _ _ _ _ ranked still straight
 
 -- ---- the rows of a state
 
@@ -150,9 +134,6 @@ module _ (r : Frame) (b : Bounded r) (by-rows : Bool) (L planes : ℕ) where
 
 -- ---- the plans of the filter
 
-pub whole-area : (r : Frame) → Bounded r → AreaOf r (wholeArea r)
-whole-area r b = omega arith
-
 module _ (r : Frame) {W H index : ℕ} (L : ℕ) (framed : Framed r W H index) (of : FrameOf r W H index) (some : 1 ≤ L) (few : L ≤ 1024)
     (fit : L ≤ r .lines + cond (r .diagonal) (r .across - 1) 0) where
   pub straight-few : r .diagonal ≡ false → L ≤ r .lines
@@ -186,10 +167,10 @@ module _ (r : Frame) {W H index : ℕ} (L : ℕ) (framed : Framed r W H index) (
     filter-sound back some-planes few-planes =
         let b : Bounded r = framed .bounded in
         filter-choice r L by-rows planes (λ (p : Bool → Plan) (n : ℕ). Sound (p back))
-        (λ d k. ranked-sound r by-rows back (wholeArea r) (spareOf r L + 1) planes b (whole-area r b) (of .slim d) (omega arith)
+        (λ d k. ranked-sound r by-rows back (wholeArea r) (spareOf r L + 1) planes b (whole-area r (b .some-lines) (b .some-across)) (of .slim d) (omega arith)
         (omega (arith, ranks-fit r L k)) some-planes few-planes)
         (λ d k. still-sound r by-rows back L planes b some few some-planes few-planes)
-        (λ d. straight-sound r back (wholeArea r) L planes b (whole-area r b) some few some-planes few-planes)
+        (λ d. straight-sound r back (wholeArea r) L planes b (whole-area r (b .some-lines) (b .some-across)) some few some-planes few-planes)
 
     pub filter-opposite : Opposite (filterPlan r by-rows false L planes) (filterPlan r by-rows true L planes) (filterStates r L)
     filter-opposite =

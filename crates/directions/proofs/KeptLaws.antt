@@ -14,8 +14,9 @@ use Rattle.frames.specs.declared.frame.Frame.{Frame}
 use Rattle.rows.specs.Plans.{lineOf, firstIn, pastIn, keysOf, orderOf, lineAt, rowLo, rowHi, rowAt, rowsIn}
 use Rattle.rows.specs.declared.plan.Plan.{Plan}
 use Rattle.directions.specs.declared.plan.Area.{Area}
-use Rattle.directions.specs.Plans.{straightPlan, stillPlan, rankedPlan, wholeArea, AreaOf, spareOf, byRanks, filterPlan, filterStates}
+use Rattle.directions.specs.Plans.{straightPlan, stillPlan, rankedPlan, wholeArea, AreaOf, spareOf, filterPlan, filterStates}
 use Rattle.directions.specs.Numbers.{pixelIn, lineKept, placeKept}
+use Rattle.directions.proofs.ChoiceLaws.{whole-area, filter-choice}
 
 -- ---- one row of keys
 
@@ -161,40 +162,24 @@ module _ (r : Frame) (rows planes : ℕ) (by-rows : Bool) where
 -- ---- the plans of the filter
 
 module _ (r : Frame) (by-rows : Bool) (L planes : ℕ) where
-  module _ (P : (Bool → Plan) → ℕ → Type 0)
-      (straight : r .diagonal ≡ false → P (λ back. straightPlan r back (wholeArea r) L planes) (spareOf r L + 1))
-      (still : r .diagonal ≡ true → P (λ back. stillPlan r by-rows back L planes) (r .lines))
-      (ranked : r .diagonal ≡ true → byRanks r L ≡ true → P (λ back. rankedPlan r by-rows back (wholeArea r) (spareOf r L + 1) planes) L) where
-    by-kind : (d b : Bool) → r .diagonal ≡ d → byRanks r L ≡ b →
-        P (λ back. cond d (cond b (rankedPlan r by-rows back (wholeArea r) (spareOf r L + 1) planes) (stillPlan r by-rows back L planes))
-        (straightPlan r back (wholeArea r) L planes)) (cond d (cond b L (r .lines)) (spareOf r L + 1))
-    by-kind true true u w = ranked u w
-    by-kind true false u w = still u
-    by-kind false b u w = straight u
-
-    -- what holds of the three kinds of plans, on either side, holds of the filter's
-    pub each-plan : P (λ back. filterPlan r by-rows back L planes) (filterStates r L)
-    unfolding filterPlan filterStates
-    each-plan = by-kind (r .diagonal) (byRanks r L) refl refl
-
   module _ (some-lines : 1 ≤ r .lines) (some-across : 1 ≤ r .across) (slim : r .diagonal ≡ true → r .across ≤ r .lines) where
-    whole-area : AreaOf r (wholeArea r)
-    whole-area = record { high = omega arith; low = omega arith; wide = omega arith; narrow = omega arith }
+    area : AreaOf r (wholeArea r)
+    area = whole-area r some-lines some-across
 
     pub sized-filter : (back : Bool) → PlanOn r (filterPlan r by-rows back L planes)
-    sized-filter = each-plan (λ p S. (back : Bool) → PlanOn r (p back))
-        (λ d back. sized-straight r (wholeArea r) whole-area L planes back)
-        (λ d back. sized-still r L planes by-rows back)
-        (λ d b back. sized-ranked r (wholeArea r) whole-area (spareOf r L + 1) planes by-rows back (slim d))
+    sized-filter = filter-choice r L by-rows planes (λ p S. (back : Bool) → PlanOn r (p back))
+        (λ d b back. sized-ranked r (wholeArea r) area (spareOf r L + 1) planes by-rows back (slim d))
+        (λ d b back. sized-still r L planes by-rows back)
+        (λ d back. sized-straight r (wholeArea r) area L planes back)
 
     pub on-filter : (back : Bool) (e m x : ℕ) → e < filterStates r L → m < rowsIn (filterPlan r by-rows back L planes) e →
         rowLo (filterPlan r by-rows back L planes) e m ≤ x → x < rowHi (filterPlan r by-rows back L planes) e m →
         RowOn r (filterPlan r by-rows back L planes) e m x
-    on-filter = each-plan
+    on-filter = filter-choice r L by-rows planes
         (λ p S. (back : Bool) (e m x : ℕ) → e < S → m < rowsIn (p back) e → rowLo (p back) e m ≤ x → x < rowHi (p back) e m → RowOn r (p back) e m x)
-        (λ d back e m x h k. on-straight r (wholeArea r) whole-area L planes back e m x k)
-        (λ d back e m x h k. on-still r L planes by-rows back e m x h)
-        (λ d b back e m x h k. on-ranked r (wholeArea r) whole-area (spareOf r L + 1) planes by-rows back e m x)
+        (λ d b back e m x h k. on-ranked r (wholeArea r) area (spareOf r L + 1) planes by-rows back e m x)
+        (λ d b back e m x h k. on-still r L planes by-rows back e m x h)
+        (λ d back e m x h k. on-straight r (wholeArea r) area L planes back e m x k)
 
     pub kept-row : (back : Bool) (e m x : ℕ) → e < filterStates r L → m < rowsIn (filterPlan r by-rows back L planes) e →
         rowLo (filterPlan r by-rows back L planes) e m ≤ x → x < rowHi (filterPlan r by-rows back L planes) e m →
@@ -214,4 +199,4 @@ module _ (r : Frame) (by-rows : Bool) (L planes : ℕ) where
 
     -- both sides keep the keys in the same way
     pub same-ranked : filterPlan r by-rows true L planes .ranked ≡ filterPlan r by-rows false L planes .ranked
-    same-ranked = each-plan (λ p S. p true .ranked ≡ p false .ranked) (λ d. refl) (λ d. refl) (λ d b. refl)
+    same-ranked = filter-choice r L by-rows planes (λ p S. p true .ranked ≡ p false .ranked) (λ d b. refl) (λ d b. refl) (λ d. refl)

@@ -10,7 +10,7 @@ use Rattle.rows.specs.Plans.{lineOf, firstIn, pastIn, orderOf, lineAt, rowLo, r
 use Rattle.rows.specs.declared.plan.Plan.{Plan}
 use Rattle.directions.specs.Plans.{straightPlan, stillPlan, rankedPlan, wholeArea, spareOf, filterPlan, filterStates}
 use Rattle.directions.specs.Numbers.{stepsAt, pixelIn}
-use Rattle.directions.proofs.KeptLaws.{each-plan}
+use Rattle.directions.proofs.ChoiceLaws.{filter-choice}
 use Rattle.directions.proofs.PlanLaws.{still-rows}
 
 -- the row whose walks of n steps go on from pixel x of line i
@@ -188,7 +188,7 @@ module _ (r : Frame) (by-rows : Bool) (L planes : ℕ) (some : 1 ≤ L) (some-ac
       let z : cond (r .diagonal) (r .across - 1) 0 ≡ r .across - 1 = rw d in omega (arith, z, fits)
 
   pub paired : Paired r (filterPlan r by-rows false L planes) (filterPlan r by-rows true L planes) (filterStates r L) (L - 1) planes
-  paired = each-plan r by-rows L planes (λ p S. Paired r (p false) (p true) S (L - 1) planes)
-      (λ d. paired-straight r L planes some d (long-straight d))
-      (λ d. paired-still r by-rows L planes some)
+  paired = filter-choice r L by-rows planes (λ p S. Paired r (p false) (p true) S (L - 1) planes)
       (λ d b. paired-ranked r by-rows L planes some d (long-slanted d))
+      (λ d b. paired-still r by-rows L planes some)
+      (λ d. paired-straight r L planes some d (long-straight d))

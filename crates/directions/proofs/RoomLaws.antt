@@ -13,7 +13,8 @@ use Rattle.frames.specs.declared.frame.Frame.{Frame}
 use Rattle.rows.specs.Plans.{halfOf, stateSize, keysSize}
 use Rattle.rows.specs.declared.plan.Plan.{Plan}
 use Rattle.directions.specs.Plans.{straightPlan, stillPlan, rankedPlan, filterPlan, byRanks, spareOf, wholeArea, FrameOf}
-use Rattle.directions.proofs.FilterLaws.{filter-choice, ranks-fit, still-few, straight-few}
+use Rattle.directions.proofs.ChoiceLaws.{filter-choice}
+use Rattle.directions.proofs.FilterLaws.{ranks-fit, still-few, straight-few}
 
 -- the keys and a state find room, where states are linked two of them, and the rows held of two numbers too
 pub record Roomy (p : Plan) (room : ℕ) : Type 0 where

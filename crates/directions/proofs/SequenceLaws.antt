@@ -16,6 +16,7 @@ use Rattle.states.specs.Stacks.{Sequence}
 use Rattle.rows.specs.declared.plan.Plan.{Plan}
 use Rattle.directions.specs.Plans.{straightPlan, stillPlan, rankedPlan, wholeArea, AreaOf, spareOf, byRanks, filterPlan, filterStates}
 use Rattle.directions.specs.Numbers.{numberAt}
+use Rattle.directions.proofs.ChoiceLaws.{whole-area}
 use Rattle.directions.proofs.SpotRows.{Beside}
 use Rattle.directions.proofs.GrownLaws.{Keyed}
 use Rattle.directions.proofs.StraightLaws.{straight-grown}
@@ -25,14 +26,8 @@ use Rattle.directions.proofs.RankedLaws.{roomIn, ranked-grown}
 -- ---- walks on the whole frame
 
 module _ (r : Frame) (W H index : ℕ) (framed : Framed r W H index) where
-  pub whole-area : AreaOf r (wholeArea r)
-  whole-area =
-      record {
-        high = framed .bounded .some-lines;
-        low = omega arith;
-        wide = framed .bounded .some-across;
-        narrow = omega arith;
-      }
+  area : AreaOf r (wholeArea r)
+  area = whole-area r (framed .bounded .some-lines) (framed .bounded .some-across)
 
   pub none-beside : (i x : ℕ) → i < r .lines → x < r .across → Beside (wholeArea r) i x → ⊥
   none-beside i x k l b =
@@ -70,7 +65,7 @@ module _ (r : Frame) (W H index : ℕ) (framed : Framed r W H index) where
     straight-follows straight rows states keyed =
         record {
           grown = λ e h.
-              straight-grown r W H index framed straight back g anywhere (wholeArea r) whole-area rows planes e keys (keyed e h) (λ m x k a b s. refl)
+              straight-grown r W H index framed straight back g anywhere (wholeArea r) area rows planes e keys (keyed e h) (λ m x k a b s. refl)
               (numberAt r (straightPlan r back (wholeArea r) rows planes) (around back W H (2 ^ index)) g anywhere (e - 1));
         }
 
@@ -86,7 +81,7 @@ module _ (r : Frame) (W H index : ℕ) (framed : Framed r W H index) where
     ranked-follows slanted rows states keyed =
         record {
           grown = λ e h.
-              ranked-grown r W H index framed slanted by-rows back g anywhere (wholeArea r) whole-area rows planes
+              ranked-grown r W H index framed slanted by-rows back g anywhere (wholeArea r) area rows planes
               (λ n j i x k l b. absurd (none-beside i x k l b))
               (λ n j i x w k. no-walk i x (w .over-bottom) (w .before-right) known g anywhere back n j
               (omega (arith, slanted-room i x (w .over-bottom) (w .before-right) back slanted)))

@@ -1,6 +1,6 @@
 -- What is gathered of a direction. A maximum is told by what it is not below, and by what it is not above. These definitions serve contracts inside
 -- the engine only: no public contract cites them.
-use Prim.Native.Nat.{ℕ, _*_, _^_, _≤_, _<_, max}
+use Prim.Native.Nat.{ℕ, _^_, _≤_, _<_, max}
 use mathlib.Core.Path.{_≡_}
 use mathlib.Core.Bool.{Bool, true, false}
 use mathlib.Core.List.{List}

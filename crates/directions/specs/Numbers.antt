@@ -1,15 +1,14 @@
 -- What the states of a sweep hold: at each pixel the best walk of a row's number of steps. And where the keys of the plate stand. These definitions
 -- serve contracts inside the engine only: no public contract cites them.
-use Prim.Native.Nat.{ℕ, _+_, _-_, _*_, _/_, _%_, _^_, _≤_, _<_}
+use Prim.Native.Nat.{ℕ, _+_, _-_, _*_, _/_, _%_, _≤_, _<_}
 use mathlib.Core.Path.{_≡_}
-use mathlib.Core.Bool.{Bool, true, false, cond}
+use mathlib.Core.Bool.{Bool, true, cond}
 use mathlib.Core.List.{List}
 use lib.Dec.{leb}
 use lib.IntN.{ℤ}
 use lib.Signed.{mag}
 use Rattle.plate.specs.Opening.{levelAt}
 use Rattle.theory.proofs.Ends.{reachFrom}
-use Rattle.theory.proofs.Sides.{around}
 use Rattle.frames.specs.Keys.{keyBy}
 use Rattle.frames.specs.Frames.{placeIn, Bounded}
 use Rattle.frames.specs.declared.frame.Frame.{Frame}

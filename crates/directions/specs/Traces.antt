@@ -1,8 +1,8 @@
 -- The plans by which a trace looks for the best walks from one picked pixel: the part of the frame on one side of it, with walks that start there alone.
 -- These definitions serve contracts inside the engine only: no public contract cites them.
-use Prim.Native.Nat.{ℕ, _+_, _-_, _*_, _≤_, _<_, min}
+use Prim.Native.Nat.{ℕ, _+_, _-_, _<_, min}
 use mathlib.Core.Path.{_≡_}
-use mathlib.Core.Bool.{Bool, true, false, cond}
+use mathlib.Core.Bool.{Bool, true, cond}
 use Rattle.frames.specs.Frames.{placeIn}
 use Rattle.frames.specs.declared.frame.Frame.{Frame}
 use Rattle.rows.specs.declared.plan.Plan.{Plan}

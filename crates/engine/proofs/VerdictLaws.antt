@@ -10,7 +10,7 @@ use lib.Dec.{eqb, ltb, leb}
 use borrow.Author.Tests.{eq-eqb, ne-eqb, lt-ltb, le-ltb, eqb-false, ltb-false}
 use Rattle.basics.proofs.Tests.{true-or-false, or-false-left, or-false-right}
 use Rattle.plate.specs.Limits.{maxLength, maxGaps}
-use Rattle.plate.specs.Refusals.{Verdict, Verdict.accepted, Verdict.refused, Check, judged, badSize, badLength, badGaps, inputCheck, resultCheck, workCheck, settingChecks, settingVerdict, filterVerdict}
+use Rattle.plate.specs.Refusals.{Verdict.accepted, Verdict.refused, Check, judged, badSize, badLength, badGaps, inputCheck, resultCheck, workCheck, settingChecks, settingVerdict, filterVerdict}
 use Rattle.plate.specs.declared.setting.Setting.{Setting}
 use Rattle.plate.proofs.Sizes.{good-size}
 use Rattle.plate.proofs.Verdicts.{refused-first}

@@ -4,13 +4,12 @@
 use Prim.Native.Nat.{ℕ, suc, _+_, _-_, _≤_, _<_, max}
 use mathlib.Core.Path.{_≡_, _∙_}
 use mathlib.Core.Bool.{Bool, true, false}
-use mathlib.Core.Logic.{_⊎_, inl, inr}
 use native.Mathlib.Omega.{arith}
 use borrow.Author.Tests.{le-leb, lt-leb}
 use lib.Dec.{leb}
 use Rattle.frames.specs.Steps.{gate}
 use Rattle.frames.proofs.PlateSpots.{gate-zero}
-use Rattle.frames.specs.Frames.{turned, placeIn, spot, past, onward}
+use Rattle.frames.specs.Frames.{placeIn, spot, past, onward}
 use Rattle.frames.specs.declared.frame.Frame.{Frame}
 
 -- ---- on the frame and off it

@@ -1,6 +1,6 @@
 -- The lines of a direction on the plate. In a frame every direction is straight or diagonal, and both ways of walking are told from the order of the
 -- lines. These definitions serve contracts inside the engine only: no public contract cites them.
-use Prim.Native.Nat.{ℕ, zero, suc, _+_, _-_, _*_, _^_, _≤_, _<_, max}
+use Prim.Native.Nat.{ℕ, _+_, _-_, _*_, _^_, _≤_, _<_, max}
 use mathlib.Core.Path.{_≡_}
 use mathlib.Core.Bool.{Bool, true, false, cond}
 use lib.Dec.{leb}

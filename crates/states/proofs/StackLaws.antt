@@ -2,25 +2,25 @@
 -- change, and is made of the keys that stand in the work buffer. States lie one after the other, each of one size: a new one leaves those before it
 -- as they are. It is made of the last, or of none where it is the first. The stride to it is at least 1, since a product of a positive number with t
 -- and more, divided by t, is.
-use Prim.Native.Nat.{ℕ, zero, suc, _+_, _-_, _*_, _/_, _≤_, _<_, min, max}
+use Prim.Native.Nat.{ℕ, zero, suc, _+_, _-_, _*_, _/_, _≤_, _<_}
 use mathlib.Core.Path.{_≡_, refl, sym, ap, _∙_, subst}
 use mathlib.Core.Logic.{_⊎_, inl, inr, ⊎-elim}
 use mathlib.Core.List.{List}
-use native.Mathlib.Nat.{add-mul, mul-le-mul, mul-le-mul-right, le-div-iff-mul-le, div-mul-le-self}
+use native.Mathlib.Nat.{add-mul, mul-le-mul, le-div-iff-mul-le, div-mul-le-self}
 use native.Mathlib.Omega.{arith}
 use lib.ListN.{length, getD, set, length-set}
 use lib.Seq.{getD-set-same, getD-set-other}
 use Rattle.basics.proofs.Numbers.{le-or-lt, rows-fit}
-use Rattle.basics.proofs.Tests.{true-or-false}
 use Rattle.theory.proofs.LevelSets.{alone}
 use Rattle.rows.specs.Runs.{Apart}
-use Rattle.rows.specs.Rows.{gate}
-use Rattle.rows.specs.Plans.{Sound, rowsIn, rowHi, rowAt, rowSize, stateSize, keysSize, startsAt}
-use Rattle.states.specs.States.{Grown, Holds, LastHolds, Advanced, ahead}
+use Rattle.rows.specs.Plans.{Sound, rowsIn, rowHi, rowSize, stateSize, keysSize}
+use Rattle.states.specs.States.{Grown, Holds, LastHolds, Advanced}
 use Rattle.states.specs.Stacks.{KeysAre, Sequence, Stacked, RunOn, Pushed, Fetched, lastMark}
 use Rattle.rows.specs.declared.plan.Plan.{Plan}
 use Rattle.states.specs.declared.stack.Stack.{Stack}
 use Rattle.rows.proofs.PlanSizes.{rows-few}
+use Rattle.states.proofs.SizeLaws.{row-small}
+use Rattle.states.proofs.StateLaws.{grown-keys}
 
 -- ---- the stride
 
@@ -103,7 +103,7 @@ place-fits depth places z base n l h = omega (arith, rows-fit depth 1 places z (
 
 -- no product wraps
 pub row-below : (p : Plan) → Sound p → rowSize p ≤ 9216
-row-below p s = mul-le-mul {n₁ = p .planes} {m₁ = p .across} {n₂ = 9} {m₂ = 1024} (s .few-planes) (s .few-across)
+row-below p s = row-small (p .planes) (p .across) (s .few-planes) (s .few-across)
 
 pub state-below : (p : Plan) → Sound p → stateSize p ≤ 9437184
 state-below p s = mul-le-mul {n₁ = p .rows} {m₁ = rowSize p} {n₂ = 1024} {m₂ = 9216} (s .few-rows) (row-below p s)
@@ -170,22 +170,10 @@ module _ (p : Plan) (sound : Sound p) where
             (subst (λ (n : ℕ). Holds work at p n (f n)) (let w : e ≡ d = omega arith in w) h);
       }
 
-  -- only the keys below the keys' size matter
-  pub grown-by-keys : (e : ℕ) (keys keys′ : ℕ → ℕ) (last this : ℕ → ℕ → ℕ → ℕ) → e < 65536 → ((q : ℕ) → q < keysSize p → keys q ≡ keys′ q) →
-      Grown p e keys last this → Grown p e keys′ last this
-  grown-by-keys e keys keys′ last this l same g =
-      let key : (m x : ℕ) → m < rowsIn p e → x < rowHi p e m → keys (rowAt p e m + x) ≡ keys′ (rowAt p e m + x) =
-      λ m x hm hx. same (rowAt p e m + x) (omega (arith, sound .fits e m hm l .wide, sound .fits e m hm l .keyed)) in
-      record {
-        first = λ m j x hm hj lo hi t. g .first m j x hm hj lo hi t ∙ ap (λ (n : ℕ). gate (startsAt p m x) (alone n j)) (key m x hm hi);
-        later = λ m j x hm hj lo hi t.
-            g .later m j x hm hj lo hi t ∙ ap (λ (n : ℕ). max (min n (ahead p e last this (suc j) m x)) (ahead p e last this j m x)) (key m x hm hi);
-      }
-
   -- the next state of a sweep, by the keys in the work buffer
   pub grown-here : (work : List ℕ) (keys : ℕ → ℕ) (states e : ℕ) (f : ℕ → ℕ → ℕ → ℕ → ℕ) → e < 65536 → e < states → KeysAre work p keys →
       Sequence p keys states f → Grown p e (λ q. getD work q 0) (f (e - 1)) (f e)
-  grown-here work keys states e f l h k s = grown-by-keys e keys (λ q. getD work q 0) (f (e - 1)) (f e) l (λ q b. sym (k .is q b)) (s .grown e h)
+  grown-here work keys states e f l h k s = grown-keys p e keys (λ q. getD work q 0) (f (e - 1)) (f e) sound l (k .is) (s .grown e h)
 
   -- ---- a run of states
 

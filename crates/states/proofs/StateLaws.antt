@@ -25,7 +25,7 @@ use Rattle.states.proofs.HoldingLaws.{held-by}
 -- ---- what is read of the work buffer
 
 -- a state is made of its keys
-grown-keys : (p : Plan) (e : ℕ) (keys keys₁ : ℕ → ℕ) (last this : ℕ → ℕ → ℕ → ℕ) → Sound p → e < 65536 →
+pub grown-keys : (p : Plan) (e : ℕ) (keys keys₁ : ℕ → ℕ) (last this : ℕ → ℕ → ℕ → ℕ) → Sound p → e < 65536 →
     ((q : ℕ) → q < keysSize p → keys₁ q ≡ keys q) → Grown p e keys last this → Grown p e keys₁ last this
 grown-keys p e keys keys₁ last this sound he same g =
     record {

@@ -2,11 +2,11 @@
 use Prim.Native.Nat.{ℕ, zero, suc, _+_, _*_, _≤_, _<_}
 use mathlib.Core.Path.{_≡_}
 use mathlib.Core.Logic.{_⊎_}
-use mathlib.Core.Bool.{true, false}
+use mathlib.Core.Bool.{true}
 use mathlib.Core.List.{List}
 use lib.ListN.{length, getD}
 use Rattle.rows.specs.Plans.{rowsIn, rowLo, rowHi, rowSize, seenLo, seenHi, pitchOf, blockOf, halfOf}
-use Rattle.states.specs.States.{rowBefore, lastBefore, Grown}
+use Rattle.states.specs.States.{rowBefore, Grown}
 use Rattle.rows.specs.declared.plan.Plan.{Plan}
 use Rattle.states.specs.declared.state.Slots.{Slots}
 

@@ -1,20 +1,20 @@
 -- The usable directions by their index in the table, and that a path crosses a pixel exactly if there is one: refusal 12 by numbers alone.
-use Prim.Native.Nat.{ℕ, zero, suc, _+_, _-_, _*_, _/_, _%_, _^_, _≤_, _<_}
+use Prim.Native.Nat.{ℕ, _+_, _-_, _*_, _/_, _%_, _^_, _≤_, _<_}
 use mathlib.Core.Path.{_≡_, refl, sym, ap, subst, _∙_}
-use mathlib.Core.Bool.{Bool, true, false, _&&_, true≢false}
-use mathlib.Core.List.{List, map, List·Memᴰ, List·Memᴰ·head, List·Memᴰ·tail}
+use mathlib.Core.Bool.{Bool, true, false, true≢false}
+use mathlib.Core.List.{List, List·Memᴰ, List·Memᴰ·head, List·Memᴰ·tail}
 use mathlib.Core.Logic.{⊎-elim}
 use native.Mathlib.Omega.{arith}
-use lib.Dec.{T, leb, eqb, leb→le, le→leb, not-T}
+use lib.Dec.{T, leb, leb→le, le→leb}
 use borrow.Author.Tests.{eq-eqb, ne-eqb}
-use Rattle.basics.proofs.Numbers.{le-or-lt, below-four}
+use Rattle.basics.proofs.Numbers.{le-or-lt}
 use Rattle.basics.proofs.Tests.{true-T, T-true, and-both, both-and, true-or-false}
 use Rattle.basics.proofs.Lists.{keep-find, keep-keep, one-of-three}
-use Rattle.plate.specs.Directions.{Direction, table, member, chosen}
+use Rattle.plate.specs.Directions.{table, member, chosen}
 use Rattle.plate.specs.Paths.{crossed, span}
 use Rattle.plate.specs.declared.setting.Setting.{Setting}
 use Rattle.theory.proofs.Ranks.{bits, bit-listed}
-use Rattle.theory.proofs.Span.{Spans, chosen-bits, crossed-spans, spans-crossed}
+use Rattle.theory.proofs.Span.{chosen-bits, crossed-spans, spans-crossed}
 use Rattle.tracing.specs.Usable.{usable, FirstUsable}
 
 -- ---- the bit of a direction

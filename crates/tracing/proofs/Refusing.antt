@@ -1,18 +1,18 @@
 -- The checks of the trace, one after the other: what each refusal says of the verdict, and that in the end all have passed.
 use Prim.Native.Nat.{ℕ, _+_, _*_, _≤_, _<_}
-use mathlib.Core.Path.{_≡_, refl, sym, ap, _∙_}
-use mathlib.Core.Bool.{true, false, not, _||_}
+use mathlib.Core.Path.{_≡_, sym}
+use mathlib.Core.Bool.{true, false, not}
 use mathlib.Core.List.{List, [], _∷_, _++_}
 use native.Mathlib.Omega.{arith}
 use lib.Dec.{eqb, ltb, leb}
 use lib.ListN.{length}
 use lib.IntN.{ℤ}
 use borrow.Author.Tests.{eq-eqb, ne-eqb, lt-ltb, le-ltb, le-leb, lt-leb, eqb-false, ltb-false}
-use Rattle.basics.proofs.Tests.{or-false-left, or-false-right}
+use Rattle.basics.proofs.Tests.{or-false-left}
 use Rattle.plate.specs.Limits.{maxLength, maxGaps}
 use Rattle.plate.specs.Paths.{crossed}
 use Rattle.plate.specs.Opening.{levelAt, filtered}
-use Rattle.plate.specs.Refusals.{Verdict, Verdict.accepted, Verdict.refused, Check, judged, badSize, badLength, badGaps, sizeCheck, inputCheck, resultCheck, workCheck, placeCheck, pathCheck, settingChecks, settingVerdict, traceChecks, traceVerdict}
+use Rattle.plate.specs.Refusals.{Verdict.accepted, Verdict.refused, Check, judged, badSize, badLength, badGaps, sizeCheck, inputCheck, resultCheck, workCheck, placeCheck, pathCheck, settingChecks, settingVerdict, traceChecks, traceVerdict}
 use Rattle.plate.specs.declared.setting.Setting.{Setting}
 use Rattle.plate.proofs.Verdicts.{Clear, clear-accepted, accepted-clear, refused-first, refused-next, clear-more}
 use Rattle.tracing.specs.Usable.{FirstUsable}

@@ -2,7 +2,7 @@
 -- above it, those of a direction that is not usable being 0, and it is one of them. Turned back, its level is the filtered one.
 use Prim.Native.Nat.{ℕ, suc, _+_, _-_, _*_, _^_, _≤_, _<_, min}
 use mathlib.Core.Path.{_≡_, refl, sym, ap, subst, _∙_}
-use mathlib.Core.Bool.{true, false, _||_}
+use mathlib.Core.Bool.{true, false}
 use mathlib.Core.List.{List, map, List·Memᴰ}
 use mathlib.Core.Logic.{⊎-elim}
 use native.Mathlib.Omega.{arith}
@@ -25,7 +25,7 @@ use Rattle.theory.specs.Trace.{Shows}
 use Rattle.theory.proofs.Listed.{mem-through, walk-listed, walk-started, walk-stays}
 use Rattle.theory.proofs.Ranks.{rank, bit-listed}
 use Rattle.theory.proofs.Span.{chosen-bits}
-use Rattle.theory.proofs.LevelSets.{reach, reach-none, low-pixels-same}
+use Rattle.theory.proofs.LevelSets.{reach-none, low-pixels-same}
 use Rattle.theory.proofs.Sides.{around, side}
 use Rattle.theory.proofs.Reversal.{back}
 use Rattle.theory.proofs.Opening.{Levels}
@@ -34,7 +34,7 @@ use Rattle.theory.proofs.Decomposition.{keyAt, value, opened-value, low-admitte
 use Rattle.theory.proofs.Terms.{term, value-term, value-least, value-same}
 use Rattle.theory.proofs.Trace.{shows}
 use Rattle.engine.specs.Finishing.{Accepted}
-use Rattle.tracing.specs.Finding.{Attained, BestOf, keysBy}
+use Rattle.tracing.specs.Finding.{BestOf, keysBy}
 use Rattle.tracing.specs.Drawing.{Drawn}
 use Rattle.tracing.specs.declared.find.Found.{Found}
 use Rattle.tracing.proofs.Directions.{index-at, chosen-usable, usable-chosen}

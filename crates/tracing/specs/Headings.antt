@@ -1,8 +1,7 @@
 -- A heading is a direction of the table, walked on or back, on a plate of a size. These definitions serve contracts inside the engine only: no
 -- public contract cites them.
-use Prim.Native.Nat.{ℕ, zero, suc, _-_, _*_, _^_, _≤_, _<_}
+use Prim.Native.Nat.{ℕ, zero, suc, _-_, _^_, _≤_, _<_}
 use mathlib.Core.Path.{_≡_}
-use mathlib.Core.Bool.{Bool}
 use mathlib.Core.List.{List}
 use Rattle.plate.specs.Directions.{stepAt}
 use Rattle.plate.specs.Paths.{Reached, Reached.at, Reached.leaves, stepFrom, span}

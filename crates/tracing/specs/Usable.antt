@@ -1,5 +1,5 @@
 -- The directions in which a trace can look for a path. These definitions serve contracts inside the engine only: no public contract cites them.
-use Prim.Native.Nat.{ℕ, _^_, _≤_, _<_}
+use Prim.Native.Nat.{ℕ, _^_, _<_}
 use mathlib.Core.Bool.{Bool, true, _&&_}
 use mathlib.Core.Path.{_≡_}
 use lib.Dec.{leb}

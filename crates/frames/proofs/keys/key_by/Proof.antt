@@ -1,5 +1,5 @@
 -- `key_by` meets its contract: the key of the level, or of its mirror.
-use mathlib.Core.Path.{_≡_, sym, ap, _∙_}
+use mathlib.Core.Path.{sym, ap, _∙_}
 use borrow.Author.Needs.{needs}
 use Rattle.basics.proofs.Integers.{read-back}
 use Rattle.plate.specs.Levels.{key, mirror}

@@ -6,7 +6,7 @@ use mathlib.Core.Logic.{⊎-elim}
 use native.Mathlib.Omega.{arith}
 use borrow.Author.Needs.{needs}
 use lib.ListN.{length}
-use Rattle.rows.specs.Plans.{Readable, halfOf}
+use Rattle.rows.specs.Plans.{halfOf}
 use Rattle.rows.specs.Rows.{RowOf}
 use Rattle.states.proofs.SizeLaws.{block-small, half-linked, half-room, row-fits, row-keyed}
 use Rattle.states.proofs.HoldingLaws.{Beside, TapsAt, beside-none, beside-some, slots-within, slotted-same, taps-fit, next-started, next-blended}

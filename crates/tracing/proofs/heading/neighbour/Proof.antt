@@ -1,6 +1,5 @@
 -- `neighbour` meets its contract: the four tests tell the plate's edges, and the place within them is what the step reaches.
 use Prim.Native.Nat.{_+_, _-_, _/_}
-use native.Mathlib.Nat.{mod-lt}
 use native.Mathlib.Omega.{arith}
 use borrow.Author.Needs.{needs}
 use Rattle.basics.proofs.Numbers.{rows-fit}

@@ -1,6 +1,5 @@
 -- `rank_of` meets its contract: north the rank is what the row adds, elsewhere the column and that.
 use mathlib.Core.Path.{sym, _∙_}
-use native.Mathlib.Nat.{mod-lt}
 use native.Mathlib.Omega.{arith}
 use borrow.Author.Needs.{needs}
 use Rattle.theory.proofs.Steps.{row-below}

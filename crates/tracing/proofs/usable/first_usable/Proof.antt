@@ -2,7 +2,6 @@
 use Prim.Native.Nat.{_-_, _≤_}
 use mathlib.Core.Path.{sym, _∙_}
 use native.Mathlib.Omega.{arith}
-use borrow.Author.Needs.{needs}
 use Rattle.tracing.proofs.Directions.{NoneBefore, none-before, none-more}
 use Rattle.tracing.proofs.usable.first_usable.Statement.{statement}
 use Rattle.tracing.proofs.usable.first_usable.Tie as tie
