@@ -8,10 +8,7 @@ use mathlib.Core.List.{List}
 use native.Mathlib.Omega.{arith}
 use lib.Dec.{eqb}
 use borrow.Author.Tests.{eqb-true, eqb-false}
-use Rattle.theory.proofs.LevelSets.{alone, fewer}
-use Rattle.theory.proofs.Maxima.{best}
-use Rattle.theory.proofs.Ends.{reachFrom, from-start, from-step}
-use Rattle.theory.proofs.Sides.{around}
+use Rattle.theory.proofs.Ends.{from-start, from-step}
 use Rattle.frames.specs.Frames.{Framed, placeIn, onward}
 use Rattle.frames.specs.declared.frame.Frame.{Frame}
 use Rattle.rows.specs.Plans.{rowsIn, lineAt, rowLo, rowHi, rowAt, starts, startsAt}
@@ -19,6 +16,8 @@ use Rattle.rows.specs.Rows.{gate}
 use Rattle.states.specs.States.{ahead, Grown}
 use Rattle.rows.specs.declared.plan.Plan.{Plan}
 use Rattle.directions.specs.Numbers.{stepsAt, pixelIn, numberAt}
+use Rattle.theory.specs.BestWalks.{alone, fewer, best, reachFrom}
+use Rattle.theory.specs.Walks.{around}
 
 -- ---- what is asked of the pixels of a state
 

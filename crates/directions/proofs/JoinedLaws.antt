@@ -11,12 +11,11 @@ use lib.ListN.{length, getD, List·getD-eq-default}
 use lib.IntN.{ℤ}
 use Rattle.basics.proofs.Numbers.{le-or-lt}
 use Rattle.plate.specs.Levels.{lowest, key}
-use Rattle.theory.proofs.Maxima.{upto, upto-keep, upto-least}
-use Rattle.theory.proofs.LevelSets.{reach, reach-none}
+use Rattle.theory.proofs.Maxima.{upto-keep, upto-least}
+use Rattle.theory.proofs.LevelSets.{reach-none}
 use Rattle.theory.proofs.Ends.{reach-anywhere, anywhere}
-use Rattle.theory.proofs.Decomposition.{joinedAt, across, keyAt}
 use Rattle.theory.proofs.Ranks.{bit-listed}
-use Rattle.theory.proofs.Sides.{around, room, side}
+use Rattle.theory.proofs.Sides.{side}
 use Rattle.frames.specs.Frames.{Framed, placeIn}
 use Rattle.directions.specs.Gathering.{Raised, bestOf}
 use Rattle.frames.specs.declared.frame.Frame.{Frame}
@@ -26,6 +25,9 @@ use Rattle.rows.specs.declared.plan.Plan.{Plan}
 use Rattle.directions.specs.Plans.{FrameOf, filterPlan, filterStates}
 use Rattle.directions.specs.Numbers.{stepsAt, pixelIn, numberAt, placeKept, keysBy}
 use Rattle.directions.specs.Gathering.{Risen}
+use Rattle.theory.specs.BestWalks.{upto, reach, joinedAt, across, keyAt}
+use Rattle.theory.specs.Walks.{around}
+use Rattle.theory.specs.Ranks.{room}
 use Rattle.directions.proofs.KeptLaws.{PlanOn, RowOn, sized-filter, on-filter, kept-on, kept-inside}
 use Rattle.directions.proofs.PairLaws.{RowFor, Paired, paired}
 

@@ -8,7 +8,6 @@ use native.Mathlib.Omega.{arith}
 use lib.ListN.{length, getD}
 use lib.IntN.{ℤ}
 use Rattle.plate.specs.Paths.{span}
-use Rattle.theory.proofs.Sides.{around}
 use Rattle.theory.proofs.Ends.{anywhere}
 use Rattle.frames.specs.Frames.{Framed}
 use Rattle.directions.specs.Gathering.{Raised, bestOf}
@@ -21,6 +20,7 @@ use Rattle.rows.specs.declared.plan.Plan.{Plan}
 use Rattle.directions.specs.Plans.{byRows, byRanks, filterPlan, filterStates, FrameOf, Oriented}
 use Rattle.directions.specs.Numbers.{KeptOn, placeKept, keysBy, numberAt}
 use Rattle.directions.specs.Gathering.{Risen}
+use Rattle.theory.specs.Walks.{around}
 use Rattle.directions.proofs.KeptLaws.{keyed, same-ranked}
 use Rattle.directions.proofs.FilterLaws.{filter-sound, filter-opposite}
 use Rattle.directions.proofs.RoomLaws.{Roomy, filter-room, filter-lines, filter-across, filter-ranked}

@@ -6,8 +6,6 @@ use mathlib.Core.Path.{_≡_, refl, sym, ap, _∙_}
 use mathlib.Core.Bool.{Bool, true, false, cond}
 use mathlib.Core.Logic.{⊎-elim}
 use native.Mathlib.Omega.{arith}
-use Rattle.theory.proofs.Ends.{reachFrom}
-use Rattle.theory.proofs.Sides.{around}
 use Rattle.frames.specs.Frames.{Framed, placeIn, spot, past, onward}
 use Rattle.frames.specs.declared.frame.Frame.{Frame}
 use Rattle.rows.specs.Plans.{lineOf, orderOf, firstIn, pastIn, lineAt, rowsIn, rowLo, rowHi}
@@ -16,6 +14,8 @@ use Rattle.rows.specs.declared.plan.Plan.{Plan}
 use Rattle.directions.specs.Plans.{rankedPlan, AreaOf}
 use Rattle.directions.specs.Numbers.{numberAt}
 use Rattle.directions.specs.declared.plan.Area.{Area}
+use Rattle.theory.specs.BestWalks.{reachFrom}
+use Rattle.theory.specs.Walks.{around}
 use Rattle.directions.proofs.SpotRows.{InArea, Beside, in-or-beside, spot-zero, rank-row}
 use Rattle.directions.proofs.TapLaws.{diagonal-taps}
 use Rattle.directions.proofs.GrownLaws.{Keyed, StartsBy, grown-by}

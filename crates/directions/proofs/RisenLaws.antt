@@ -15,11 +15,11 @@ use mir.Val.{toZ, ofZ}
 use mir.Facts.{toZ-ofZ}
 use Rattle.basics.proofs.Numbers.{le-or-lt}
 use Rattle.plate.specs.Levels.{lowest, key}
-use Rattle.theory.proofs.Decomposition.{keyAt}
 use Rattle.frames.proofs.KeyLaws.{level-read}
 use Rattle.frames.specs.declared.frame.Frame.{Frame}
 use Rattle.directions.specs.Numbers.{placeKept}
 use Rattle.directions.specs.Gathering.{Risen}
+use Rattle.theory.specs.BestWalks.{keyAt}
 
 -- a level that is stored and one that is read, by their keys
 pub raised-level : (xs : List ℤ) (x : ℕ) (v : ℤ) (t : ℕ) → mag v < 32768 → mag (getD xs x (pos 0)) < 32768 → x < length xs →

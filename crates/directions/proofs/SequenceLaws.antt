@@ -7,8 +7,8 @@ use mathlib.Core.Logic.{_⊎_, ⊎-elim}
 use native.Mathlib.Omega.{arith}
 use Rattle.theory.proofs.LevelSets.{reach-none}
 use Rattle.theory.proofs.Ranks.{bit-listed}
-use Rattle.theory.proofs.Sides.{around, room, side}
-use Rattle.theory.proofs.Ends.{reachFrom, anywhere, from-below}
+use Rattle.theory.proofs.Sides.{side}
+use Rattle.theory.proofs.Ends.{anywhere, from-below}
 use Rattle.frames.specs.Frames.{Framed, placeIn}
 use Rattle.frames.specs.declared.frame.Frame.{Frame}
 use Rattle.rows.specs.Plans.{startsAt}
@@ -16,6 +16,9 @@ use Rattle.states.specs.Stacks.{Sequence}
 use Rattle.rows.specs.declared.plan.Plan.{Plan}
 use Rattle.directions.specs.Plans.{straightPlan, stillPlan, rankedPlan, wholeArea, AreaOf, spareOf, byRanks, filterPlan, filterStates}
 use Rattle.directions.specs.Numbers.{numberAt}
+use Rattle.theory.specs.Walks.{around}
+use Rattle.theory.specs.Ranks.{room}
+use Rattle.theory.specs.BestWalks.{reachFrom}
 use Rattle.directions.proofs.ChoiceLaws.{whole-area}
 use Rattle.directions.proofs.SpotRows.{Beside}
 use Rattle.directions.proofs.GrownLaws.{Keyed}

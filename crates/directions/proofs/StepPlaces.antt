@@ -12,13 +12,13 @@ use lib.Dec.{leb, eqb}
 use borrow.Author.Tests.{eqb-true, eq-eqb, leb-true}
 use Rattle.basics.proofs.Numbers.{le-or-lt, le-max-split}
 use Rattle.theory.proofs.Maxima.{best-find, best-keep}
-use Rattle.theory.proofs.Sides.{around}
 use Rattle.frames.specs.Steps.{gate}
 use Rattle.frames.specs.Frames.{turned, placeIn, spot, past, onward, Framed}
 use Rattle.frames.specs.declared.frame.Frame.{Frame}
 use Rattle.frames.proofs.SpotLaws.{turned-below, turned-twice}
 use Rattle.frames.proofs.FrameSpots.{spot-on, onward-straight, onward-diagonal}
 use Rattle.directions.specs.Plans.{byRows, FrameOf}
+use Rattle.theory.specs.Walks.{around}
 
 -- ---- a place has one line and pixel
 

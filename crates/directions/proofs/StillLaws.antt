@@ -5,8 +5,6 @@ use Prim.Native.Nat.{ℕ, zero, suc, _+_, _-_, _^_, _<_}
 use mathlib.Core.Path.{_≡_, refl, sym, ap, _∙_}
 use mathlib.Core.Bool.{Bool, true, false}
 use native.Mathlib.Omega.{arith}
-use Rattle.theory.proofs.Ends.{reachFrom}
-use Rattle.theory.proofs.Sides.{around}
 use Rattle.frames.specs.Frames.{Framed, spot, past, onward}
 use Rattle.frames.specs.declared.frame.Frame.{Frame}
 use Rattle.rows.specs.Plans.{lineOf, orderOf, firstIn, pastIn, lineAt}
@@ -14,6 +12,8 @@ use Rattle.states.specs.States.{rowBefore, lastBefore, seen, ahead, Grown}
 use Rattle.rows.specs.declared.plan.Plan.{Plan}
 use Rattle.directions.specs.Plans.{stillPlan}
 use Rattle.directions.specs.Numbers.{numberAt}
+use Rattle.theory.specs.BestWalks.{reachFrom}
+use Rattle.theory.specs.Walks.{around}
 use Rattle.directions.proofs.SpotRows.{spot-zero, line-row}
 use Rattle.directions.proofs.TapLaws.{diagonal-taps}
 use Rattle.directions.proofs.GrownLaws.{Keyed, StartsBy, grown-by}

@@ -11,15 +11,15 @@ use native.Mathlib.Omega.{arith}
 use lib.Dec.{eqb}
 use borrow.Author.Tests.{eqb-true}
 use Rattle.basics.proofs.Numbers.{le-or-lt, le-max-split}
-use Rattle.theory.proofs.Ends.{reachFrom, from-start, from-step}
-use Rattle.theory.proofs.LevelSets.{alone, fewer}
-use Rattle.theory.proofs.Maxima.{best, best-find}
-use Rattle.theory.proofs.Sides.{around}
+use Rattle.theory.proofs.Ends.{from-start, from-step}
+use Rattle.theory.proofs.Maxima.{best-find}
 use Rattle.frames.specs.Frames.{placeIn, Framed}
 use Rattle.frames.specs.declared.frame.Frame.{Frame}
 use Rattle.directions.specs.Plans.{FrameOf, AreaOf}
 use Rattle.directions.specs.Traces.{traceArea, SpotOf}
 use Rattle.directions.specs.declared.frame.Spot.{Spot}
+use Rattle.theory.specs.BestWalks.{reachFrom, alone, fewer, best}
+use Rattle.theory.specs.Walks.{around}
 use Rattle.directions.proofs.StepPlaces.{Neighbour, nearer, further, clash, straight-step, diagonal-step, place-injective, step-place}
 
 -- ---- numbers that are not 0

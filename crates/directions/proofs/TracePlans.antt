@@ -8,8 +8,6 @@ use mathlib.Core.Logic.{inl, inr, ⊎-elim}
 use native.Mathlib.Nat.{mul-le-mul}
 use native.Mathlib.Omega.{arith}
 use lib.Dec.{eqb}
-use Rattle.theory.proofs.Ends.{reachFrom}
-use Rattle.theory.proofs.Sides.{around}
 use Rattle.frames.specs.Frames.{placeIn, Bounded, Framed}
 use Rattle.frames.specs.declared.frame.Frame.{Frame}
 use Rattle.rows.specs.Plans.{lineAt, rowLo, rowHi, rowAt, rowsIn, halfOf, stateSize, keysSize, Sound}
@@ -19,6 +17,8 @@ use Rattle.directions.specs.Numbers.{stepsAt, pixelIn, numberAt, placeKe
 use Rattle.directions.specs.Plans.{straightPlan, rankedPlan, AreaOf, FrameOf}
 use Rattle.directions.specs.Traces.{traceArea, tracePlan, traceStates, SpotOf}
 use Rattle.directions.specs.declared.frame.Spot.{Spot}
+use Rattle.theory.specs.BestWalks.{reachFrom}
+use Rattle.theory.specs.Walks.{around}
 use Rattle.directions.proofs.GrownLaws.{Keyed, StartsBy}
 use Rattle.directions.proofs.KeptLaws.{RowOn, PlanOn, kept-on, kept-inside, sized-straight, sized-ranked, on-straight, on-ranked}
 use Rattle.directions.proofs.PlanLaws.{straight-sound}

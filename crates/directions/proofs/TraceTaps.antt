@@ -9,7 +9,6 @@ use mathlib.Core.Logic.{_⊎_, inl, inr}
 use native.Mathlib.Omega.{arith}
 use lib.Dec.{leb}
 use borrow.Author.Tests.{leb-true}
-use Rattle.theory.proofs.Sides.{around}
 use Rattle.frames.specs.Frames.{past, Framed}
 use Rattle.frames.specs.declared.frame.Frame.{Frame}
 use Rattle.rows.specs.Plans.{lineAt, rowLo, rowHi, rowsIn, Sound}
@@ -21,6 +20,7 @@ use Rattle.directions.specs.Plans.{straightPlan, rankedPlan, AreaOf}
 use Rattle.directions.specs.Traces.{traceArea, tracePlan, SpotOf}
 use Rattle.directions.specs.declared.plan.Area.{Area}
 use Rattle.directions.specs.declared.frame.Spot.{Spot}
+use Rattle.theory.specs.Walks.{around}
 use Rattle.directions.proofs.KeptLaws.{RowOn, on-straight, on-ranked}
 use Rattle.directions.proofs.RankedLaws.{rank-on, rank-two-on}
 use Rattle.directions.proofs.StepPlaces.{clash, place-step}

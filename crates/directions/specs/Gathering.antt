@@ -7,11 +7,11 @@ use mathlib.Core.List.{List}
 use lib.ListN.{length, getD}
 use lib.IntN.{ℤ}
 use Rattle.plate.specs.Opening.{levelAt}
-use Rattle.theory.proofs.Decomposition.{keyAt, across}
-use Rattle.theory.proofs.Sides.{around}
 use Rattle.frames.specs.Keys.{keyBy}
 use Rattle.frames.specs.declared.frame.Frame.{Frame}
 use Rattle.directions.specs.Numbers.{placeKept}
+use Rattle.theory.specs.BestWalks.{keyAt, across}
+use Rattle.theory.specs.Walks.{around}
 
 -- the levels of the places whose numbers stand from lo below hi have risen to them, and no level further than something that they are not above
 pub record Risen (r : Frame) (ranked : Bool) (best : List ℕ) (old new : List ℤ) (lo hi : ℕ) : Type 0 where

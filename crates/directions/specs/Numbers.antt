@@ -8,12 +8,12 @@ use lib.Dec.{leb}
 use lib.IntN.{ℤ}
 use lib.Signed.{mag}
 use Rattle.plate.specs.Opening.{levelAt}
-use Rattle.theory.proofs.Ends.{reachFrom}
 use Rattle.frames.specs.Keys.{keyBy}
 use Rattle.frames.specs.Frames.{placeIn, Bounded}
 use Rattle.frames.specs.declared.frame.Frame.{Frame}
 use Rattle.rows.specs.Plans.{lineAt}
 use Rattle.rows.specs.declared.plan.Plan.{Plan}
+use Rattle.theory.specs.BestWalks.{reachFrom}
 
 -- the steps of the walks of row m of state e
 abbrev pub stepsAt : Plan → ℕ → ℕ → ℕ

@@ -16,12 +16,14 @@ use Rattle.plate.specs.Levels.{lowest, level, key}
 use Rattle.plate.specs.Directions.{chosen}
 use Rattle.plate.specs.Opening.{levelAt, openedAt, filtered}
 use Rattle.plate.specs.declared.setting.Setting.{Setting}
-use Rattle.theory.proofs.Decomposition.{keyAt, value, opened-value}
+use Rattle.theory.proofs.Decomposition.{opened-value}
 use Rattle.theory.proofs.Terms.{value-same}
-use Rattle.theory.proofs.Opening.{Levels, levels-within}
-use Rattle.theory.proofs.Mirror.{turned, turned-levels, filtered-length, levelAt-filtered}
+use Rattle.theory.proofs.Opening.{levels-within}
+use Rattle.theory.proofs.Mirror.{turned-levels, filtered-length, levelAt-filtered}
 use Rattle.frames.specs.Keys.{keyBy, levelBy}
 use Rattle.engine.specs.Finishing.{bestOfAll, Blank, Gathered, Finished}
+use Rattle.theory.specs.BestWalks.{keyAt, value}
+use Rattle.theory.specs.Modes.{Levels, turned}
 
 -- the key by the mode is the key of a turned level, and the level by the mode a turned level
 turned-key : (s : Setting) (v : ℤ) → key (turned s v) ≡ keyBy (s .mode) v

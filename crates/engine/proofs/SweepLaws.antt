@@ -17,16 +17,15 @@ use Rattle.plate.specs.Directions.{table, member, chosen}
 use Rattle.plate.specs.Paths.{span}
 use Rattle.plate.specs.Opening.{levelAt}
 use Rattle.plate.specs.declared.setting.Setting.{Setting}
-use Rattle.theory.proofs.Decomposition.{keyAt}
 use Rattle.theory.proofs.Listed.{walk-started}
-use Rattle.theory.proofs.Maxima.{best}
 use Rattle.theory.proofs.Ranks.{bits, ranked, bit-listed}
 use Rattle.theory.proofs.Span.{walk-fits}
 use Rattle.theory.proofs.Terms.{across-none}
 use Rattle.frames.specs.Keys.{keyBy}
-use Rattle.theory.proofs.Sides.{around}
 use Rattle.directions.specs.Gathering.{Raised, bestOf}
 use Rattle.engine.specs.Finishing.{Accepted, Complete, Gathered, bestIn, bestIfChosen, bestOfAll}
+use Rattle.theory.specs.BestWalks.{keyAt, best}
+use Rattle.theory.specs.Walks.{around}
 use Rattle.engine.proofs.RaiseLaws.{raised-to-nothing, raised-twice, raised-by}
 
 -- ---- a direction that is opened

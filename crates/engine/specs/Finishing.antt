@@ -12,10 +12,9 @@ use Rattle.plate.specs.Directions.{member, chosen}
 use Rattle.plate.specs.Paths.{next}
 use Rattle.plate.specs.Opening.{levelAt}
 use Rattle.plate.specs.declared.setting.Setting.{Setting}
-use Rattle.theory.proofs.Reversal.{back}
-use Rattle.theory.proofs.Maxima.{best}
-use Rattle.theory.proofs.Decomposition.{keyAt, across}
 use Rattle.frames.specs.Keys.{keyBy, levelBy}
+use Rattle.theory.specs.Walks.{back}
+use Rattle.theory.specs.BestWalks.{best, keyAt, across}
 
 -- sizes, setting and the lengths of plate, result and work that pass every check
 pub record Accepted (W H : ℕ) (s : Setting) (plate result work : ℕ) : Type 0 where

@@ -8,12 +8,11 @@ use native.Mathlib.Omega.{arith}
 use Rattle.basics.proofs.Numbers.{below-three, below-four}
 use Rattle.plate.specs.Directions.{Step, table, stepAt, stepsIn, steps}
 use Rattle.plate.specs.Paths.{Reached, Reached.at, Reached.leaves, stepFrom, arrivals, reachedBy, next}
-use Rattle.theory.proofs.Reversal.{minus, back}
-use Rattle.theory.proofs.Maxima.{best}
-use Rattle.theory.proofs.Sides.{around}
-use Rattle.frames.specs.Steps.{across, down}
+use Rattle.frames.specs.Steps.{across, down, toward}
+use Rattle.theory.specs.Walks.{minus, back, around}
+use Rattle.theory.specs.BestWalks.{best}
 use Rattle.frames.proofs.PlateSpots.{plateSpot}
-use Rattle.frames.proofs.Landing.{toward, Small, Small.one-less, Small.no-change, Small.one-more, landing, step-spot}
+use Rattle.frames.proofs.Landing.{Small, Small.one-less, Small.no-change, Small.one-more, landing, step-spot}
 
 -- ---- the steps of the table
 

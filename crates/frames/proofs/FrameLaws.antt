@@ -9,10 +9,10 @@ use lib.Dec.{eqb, leb}
 use Rattle.basics.proofs.Numbers.{below-four}
 use Rattle.plate.specs.Directions.{table, stepAt}
 use Rattle.plate.specs.Paths.{span}
-use Rattle.theory.proofs.Ranks.{rankAt}
 use Rattle.frames.specs.Steps.{plusOne, biased, across, down}
 use Rattle.frames.specs.Frames.{turned, spot, past, onward, Framed}
 use Rattle.frames.specs.declared.frame.Frame.{Frame}
+use Rattle.theory.specs.Ranks.{rankAt}
 use Rattle.frames.proofs.PlateLines.{Sized, three, rows, rows-bounded, rows-on, rows-whole, rows-near, rows-rank, columns, columns-bounded, columns-on, columns-whole, columns-near, columns-rank}
 
 -- how far a step goes on to the next line or pixel, plus one

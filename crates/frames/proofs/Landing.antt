@@ -10,13 +10,9 @@ use borrow.Author.Tests.{le-ltb, lt-ltb}
 use Rattle.basics.proofs.Numbers.{le-or-lt}
 use Rattle.plate.specs.Directions.{Step}
 use Rattle.plate.specs.Paths.{Reached, Reached.at, Reached.leaves, placeAt, stepFrom}
-use Rattle.theory.proofs.Reversal.{minus}
-use Rattle.frames.specs.Steps.{plusOne, biased}
+use Rattle.frames.specs.Steps.{plusOne, biased, toward}
+use Rattle.theory.specs.Walks.{minus}
 use Rattle.frames.proofs.PlateSpots.{plateSpot, spot-on, spot-above, spot-below, spot-left, spot-right}
-
--- a step as it stands, or negated
-unfoldable pub toward : Bool → Step → Step
-toward back s = cond back (minus s) s
 
 -- a change by −1, 0 or 1
 pub data Small : ℤ → Type 0 where

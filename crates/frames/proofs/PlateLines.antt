@@ -8,15 +8,15 @@ use native.Mathlib.Omega.{arith}
 use lib.Arith.{digits-lt, digits-div, digits-mod}
 use lib.IntN.{ℤ, pos, negsuc}
 use Rattle.plate.specs.Directions.{stepAt}
-use Rattle.theory.proofs.Maxima.{best}
-use Rattle.theory.proofs.Ranks.{rank, rankAt}
-use Rattle.theory.proofs.Sides.{around}
 use Rattle.theory.proofs.Steps.{column-below, row-below}
 use Rattle.frames.specs.Steps.{plusOne, biased, across, down}
 use Rattle.frames.proofs.PlateSpots.{plateSpot}
 use Rattle.frames.proofs.Bridge.{best-around}
 use Rattle.frames.specs.Frames.{turned, placeIn, spot, Bounded}
 use Rattle.frames.specs.declared.frame.Frame.{Frame}
+use Rattle.theory.specs.BestWalks.{best}
+use Rattle.theory.specs.Ranks.{rank, rankAt}
+use Rattle.theory.specs.Walks.{around}
 use Rattle.frames.proofs.SpotLaws.{turned-below, turned-twice, turned-step, rowsFrame, columnsFrame, rows-place, columns-place, rows-spot, columns-spot}
 
 -- the sizes of a plate

@@ -5,10 +5,11 @@ use mathlib.Core.Path.{_≡_}
 use mathlib.Core.Bool.{Bool, true, false, cond}
 use lib.Dec.{leb}
 use Rattle.plate.specs.Paths.{span}
-use Rattle.theory.proofs.Maxima.{best}
-use Rattle.theory.proofs.Sides.{around, room}
 use Rattle.frames.specs.Steps.{gate}
 use Rattle.frames.specs.declared.frame.Frame.{Frame}
+use Rattle.theory.specs.BestWalks.{best}
+use Rattle.theory.specs.Walks.{around}
+use Rattle.theory.specs.Ranks.{room}
 
 -- a number below n as it stands, or counted from the last one
 unfoldable pub turned : Bool → ℕ → ℕ → ℕ

@@ -1,9 +1,10 @@
 -- The steps of the table in coordinates plus one, so that the edges of the plate are natural numbers. These definitions serve contracts inside the
 -- engine only: no public contract cites them. proofs/Bridge.antt ties them to the definitions of paths.
 use Prim.Native.Nat.{ℕ, zero, suc, _-_}
-use mathlib.Core.Bool.{Bool, true, false}
+use mathlib.Core.Bool.{Bool, true, false, cond}
 use lib.IntN.{ℤ, pos, negsuc}
-use Rattle.plate.specs.Directions.{stepAt}
+use Rattle.plate.specs.Directions.{Step, stepAt}
+use Rattle.theory.specs.Walks.{minus}
 
 -- a change by −1, 0 or 1, plus one
 unfoldable pub plusOne : ℤ → ℕ
@@ -28,3 +29,7 @@ down index number back = biased back (stepAt index number .row)
 abbrev pub gate : Bool → ℕ → ℕ
 gate true v = v
 gate false v = 0
+
+-- a step as it stands, or negated
+unfoldable pub toward : Bool → Step → Step
+toward back s = cond back (minus s) s

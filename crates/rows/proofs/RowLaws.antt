@@ -10,10 +10,10 @@ use lib.Dec.{leb, eqb}
 use lib.ListN.{getD}
 use Rattle.basics.proofs.Numbers.{le-or-lt}
 use Rattle.rows.specs.Runs.{Between}
-use Rattle.theory.proofs.LevelSets.{alone}
 use Rattle.rows.specs.Plans.{pitchOf, blockOf, startsAt}
 use Rattle.rows.specs.Rows.{gate, inRow, RowPut, RowHeld, RowStored, Started}
 use Rattle.rows.specs.declared.plan.Plan.{Plan}
+use Rattle.theory.specs.BestWalks.{alone}
 use Rattle.rows.proofs.PlanSizes.{plane-fits}
 use Rattle.rows.proofs.PlaneLaws.{In, Either, Planes, planes-none, copied-more}
 

@@ -7,11 +7,11 @@ use mathlib.Core.List.{List}
 use lib.Dec.{leb}
 use lib.ListN.{length, getD}
 use mathlib.Core.Logic.{_⊎_}
-use Rattle.theory.proofs.LevelSets.{alone}
 use Rattle.rows.specs.Runs.{Apart, greatestAt}
 use Rattle.rows.specs.Plans.{pitchOf, blockOf}
 use Rattle.rows.specs.declared.plan.Plan.{Plan}
 use Rattle.rows.specs.declared.plan.Row.{Row}
+use Rattle.theory.specs.BestWalks.{alone}
 
 abbrev pub gate : Bool → ℕ → ℕ
 gate true v = v

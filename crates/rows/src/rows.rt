@@ -3,10 +3,10 @@
 ghost use mathlib.Core.Path.{_≡_};
 ghost use Prim.Native.Nat.{ℕ, _+_, _-_, _*_, _≤_, _<_};
 ghost use lib.ListN.{length, getD};
-ghost use Rattle.theory.proofs.LevelSets.{alone};
 ghost use Rattle.rows.specs.Runs.{Apart};
 ghost use Rattle.rows.specs.Plans.{pitchOf, blockOf, rowSize, startsAt};
 ghost use Rattle.rows.specs.Rows.{gate, RowPut, RowHeld, RowStored, RowJoined, RowOf, SlotOf, TapsOf, Started, blended};
+ghost use Rattle.theory.specs.BestWalks.{alone};
 use crate::plan::Plan;
 use crate::plan::Row;
 use crate::runs::Taps;

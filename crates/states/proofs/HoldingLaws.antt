@@ -8,7 +8,6 @@ use mathlib.Core.List.{List}
 use native.Mathlib.Omega.{arith}
 use lib.Dec.{leb}
 use lib.ListN.{length, getD}
-use Rattle.theory.proofs.LevelSets.{alone}
 use borrow.Author.Tests.{leb-true}
 use Rattle.basics.proofs.Numbers.{rows-fit}
 use Rattle.rows.specs.Runs.{Between, Apart}
@@ -18,6 +17,7 @@ use Rattle.states.specs.States.{rowBefore, lastBefore, seen, ahead, Grow
 use Rattle.states.specs.Holding.{Slotted, tapOf, LastFrom, LastHeld, Ready, LastRow, NextRow}
 use Rattle.rows.specs.declared.plan.Plan.{Plan}
 use Rattle.states.specs.declared.state.Slots.{Slots}
+use Rattle.theory.specs.BestWalks.{alone}
 use Rattle.states.proofs.SizeLaws.{row-before, in-block, half-linked, half-room}
 
 pub in-row-same : (lo hi X : ℕ) (f g : ℕ → ℕ) → ((x : ℕ) → lo ≤ x → x < hi → f x ≡ g x) → inRow lo hi f X ≡ inRow lo hi g X

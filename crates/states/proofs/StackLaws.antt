@@ -11,13 +11,13 @@ use native.Mathlib.Omega.{arith}
 use lib.ListN.{length, getD, set, length-set}
 use lib.Seq.{getD-set-same, getD-set-other}
 use Rattle.basics.proofs.Numbers.{le-or-lt, rows-fit}
-use Rattle.theory.proofs.LevelSets.{alone}
 use Rattle.rows.specs.Runs.{Apart}
 use Rattle.rows.specs.Plans.{Sound, rowsIn, rowHi, rowSize, stateSize, keysSize}
 use Rattle.states.specs.States.{Grown, Holds, LastHolds, Advanced}
 use Rattle.states.specs.Stacks.{KeysAre, Sequence, Stacked, RunOn, Pushed, Fetched, lastMark}
 use Rattle.rows.specs.declared.plan.Plan.{Plan}
 use Rattle.states.specs.declared.stack.Stack.{Stack}
+use Rattle.theory.specs.BestWalks.{alone}
 use Rattle.rows.proofs.PlanSizes.{rows-few}
 use Rattle.states.proofs.SizeLaws.{row-small}
 use Rattle.states.proofs.StateLaws.{grown-keys}

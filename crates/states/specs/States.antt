@@ -5,11 +5,11 @@ use mathlib.Core.Path.{_≡_}
 use mathlib.Core.Bool.{true, false}
 use mathlib.Core.List.{List}
 use lib.ListN.{length, getD}
-use Rattle.theory.proofs.LevelSets.{alone}
 use Rattle.rows.specs.Runs.{Apart}
 use Rattle.rows.specs.Plans.{rowsIn, rowLo, rowHi, rowAt, rowSize, stateSize, starts, startsAt}
 use Rattle.rows.specs.Rows.{gate, inRow}
 use Rattle.rows.specs.declared.plan.Plan.{Plan}
+use Rattle.theory.specs.BestWalks.{alone}
 
 -- ---- where a step finds its numbers
 

@@ -11,7 +11,6 @@ use Rattle.basics.proofs.Lists.{any-default}
 use Rattle.plate.specs.Levels.{lowest}
 use Rattle.plate.specs.Refusals.{Verdict, Verdict.accepted, Verdict.refused}
 use Rattle.plate.proofs.Sizes.{good-size}
-use Rattle.theory.proofs.Opening.{Levels}
 use Rattle.survey_text.specs.Reading.{_>>=_, maxPlate}
 use Rattle.survey_text.specs.Printing.{outText, traceText, refusalText}
 use Rattle.survey_text.specs.Survey.{Survey, requested, traced, filteredPlate, printed, surveyText, answer, Answered}
@@ -21,6 +20,7 @@ use Rattle.survey_text.proofs.Written.{written-then}
 use Rattle.survey_text.proofs.Lengths.{maxOut, maxTrace, out-length, trace-length, refusal-length}
 use Rattle.surveying.specs.Surveying.{maxOutput, ShowsOf, Surveyed}
 use Rattle.surveying.specs.Steps.{Fitting, WrittenShort, TraceWritten, SurveyWritten}
+use Rattle.theory.specs.Modes.{Levels}
 
 -- ---- room
 

@@ -16,7 +16,7 @@ use Rattle.plate.specs.Levels.{lowest, corrected, correctedPlate}
 use Rattle.plate.specs.Refusals.{Verdict, Verdict.accepted, Check, badReading, badCorrection, sizeCheck, inputCheck, resultCheck, readingsCheck, correctionsCheck, correctionVerdict, settingVerdict}
 use Rattle.plate.proofs.Verdicts.{Clear, accepted-clear}
 use Rattle.plate.proofs.CorrectedLevels.{corrected-fits}
-use Rattle.theory.proofs.Opening.{Levels, levels-within}
+use Rattle.theory.proofs.Opening.{levels-within}
 use Rattle.plate.specs.declared.setting.Setting.{Setting}
 use Rattle.survey_text.specs.Reading.{PlateText, reading}
 use Rattle.survey_text.specs.Survey.{Survey, requested}
@@ -24,6 +24,7 @@ use Rattle.survey_text.proofs.Verdicts.{accepted-same, steps-accepted}
 use Rattle.survey_text.proofs.Heads.{Sized, reading-sized}
 use Rattle.survey_text.proofs.Requests.{same-setting}
 use Rattle.surveying.specs.Steps.{Fitting, Ready}
+use Rattle.theory.specs.Modes.{Levels}
 
 not-false : (a b : ℕ) → not (eqb a b) ≡ false → a ≡ b
 not-false a b e = ⊎-elim (λ t. eqb-true a b t) (λ t. absurd (let f : true ≡ false = rw t at e in let z : _≡_ {A = ℕ} 0 1 = cc in omega arith)) (true-or-false (eqb a b))

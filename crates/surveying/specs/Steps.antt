@@ -9,7 +9,6 @@ use lib.ListN.{length, getD}
 use Rattle.plate.specs.Refusals.{Verdict, Verdict.accepted, badSize, settingVerdict}
 use Rattle.plate.specs.declared.answer.Traced.{Traced}
 use Rattle.plate.specs.declared.answer.Traced.the-variants.{Path, Refused as Untraced}
-use Rattle.theory.proofs.Opening.{Levels}
 use Rattle.survey_text.specs.Reading.{_>>=_, maxPlate}
 use Rattle.survey_text.specs.Printing.{traceText, refusalText}
 use Rattle.survey_text.specs.Survey.{Survey, traced, printed, surveyText}
@@ -17,6 +16,7 @@ use Rattle.survey_text.specs.Buffers.{Written}
 use Rattle.survey_text.specs.declared.reading.Header.{Header}
 use Rattle.survey_text.proofs.Lengths.{maxTrace}
 use Rattle.surveying.specs.Surveying.{maxOutput, ShowsOf}
+use Rattle.theory.specs.Modes.{Levels}
 
 -- numbers of work for the largest plate and the most gaps
 abbrev pub maxWork : ℕ

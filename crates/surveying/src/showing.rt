@@ -2,13 +2,13 @@
 ghost use mathlib.Core.Path.{_≡_};
 ghost use Prim.Native.Nat.{_+_, _*_, _≤_, _<_};
 ghost use lib.ListN.{length};
-ghost use Rattle.theory.proofs.Opening.{Levels};
 ghost use Rattle.survey_text.specs.Printing.{outText};
 ghost use Rattle.survey_text.specs.Buffers.{Written};
 ghost use Rattle.survey_text.specs.Reading.{maxPlate};
 ghost use Rattle.survey_text.proofs.Lengths.{maxOut, maxTrace};
 ghost use Rattle.surveying.specs.Surveying.{maxOutput};
 ghost use Rattle.surveying.specs.Steps.{maxWork, asked, Ready, Fitting, OnPlate, tracedText, pathless, WrittenShort, TraceWritten};
+ghost use Rattle.theory.specs.Modes.{Levels};
 use plate::Traced;
 use plate::refusal;
 use survey_text::Header;

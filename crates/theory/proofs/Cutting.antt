@@ -5,7 +5,8 @@ use Prim.Native.Nat.{ℕ, _+_}
 use mathlib.Core.Path.{_≡_, refl, sym, ap, subst, _∙_}
 use mathlib.Core.List.{List, [], _∷_, tail, reverse, reverseAux, List·Memᴰ, List·Memᴰ·head, List·Memᴰ·tail}
 use native.Mathlib.Omega.{arith}
-use Rattle.theory.proofs.Walks.{Walk, Walk.stop, Walk.go, WalkOf, walk-starts}
+use Rattle.theory.specs.Walks.{Walk, Walk.stop, Walk.go, WalkOf}
+use Rattle.theory.proofs.Walks.{walk-starts}
 
 -- a walk of m steps with the pixels ps, cut at x; x is in both parts
 pub record Cut (next back : ℕ → List ℕ) (m x : ℕ) (ps : List ℕ) : Type 0 where

@@ -13,34 +13,15 @@ use Rattle.plate.specs.Levels.{level, key}
 use Rattle.plate.specs.Paths.{next}
 use Rattle.plate.specs.Opening.{levelAt, below, admits, openedAt}
 use Rattle.plate.specs.declared.setting.Setting.{Setting}
+use Rattle.theory.specs.Walks.{back}
+use Rattle.theory.specs.BestWalks.{best, upto, under, lowPixels, reach, across, in-direction, value, keyAt}
 use Rattle.plate.proofs.Keys.{ltZ-key, key-bound}
 use Rattle.theory.proofs.Listed.{listed-walk, walk-listed, walk-started, paths-find, paths-keep}
-use Rattle.theory.proofs.Reversal.{back, turn, turn-back}
+use Rattle.theory.proofs.Reversal.{turn, turn-back}
 use Rattle.theory.proofs.Admission.{admitted-few, few-admitted}
 use Rattle.theory.proofs.Opening.{Counts, opened-is}
-use Rattle.theory.proofs.Maxima.{best, best-find, best-keep, upto, upto-find, upto-keep}
-use Rattle.theory.proofs.LevelSets.{under, lowPixels, reach}
+use Rattle.theory.proofs.Maxima.{best-find, best-keep, upto-find, upto-keep}
 use Rattle.theory.proofs.Splitting.{Crossing, Halves, split, unsplit}
-
--- one term: a walk of l steps that ends at x with at most i pixels low, and one of the other steps that starts there with the other gaps
-abbrev pub joinedAt : (ℕ → List ℕ) → (ℕ → List ℕ) → (ℕ → ℕ) → ℕ → ℕ → ℕ → ℕ → ℕ → ℕ
-joinedAt next back g m k x l i = min (reach back g l i x) (reach next g (m - l) (k - i) x)
-
--- the best walk of m steps through x with at most k pixels low, but for the key of x itself
-unfoldable pub across : (ℕ → List ℕ) → (ℕ → List ℕ) → (ℕ → ℕ) → ℕ → ℕ → ℕ → ℕ
-across next back g m k x = upto (λ l. upto (joinedAt next back g m k x l) k) m
-
--- the same in a direction of the plate
-abbrev pub in-direction : ℕ → ℕ → ℕ → ℕ → ℕ → (ℕ → ℕ) → ℕ → ℕ
-in-direction W H bit m k g x = across (next W H bit) (back W H bit) g m k x
-
--- the opened key at x, for the directions of these bits and paths of m steps
-unfoldable pub value : ℕ → ℕ → List ℕ → ℕ → ℕ → (ℕ → ℕ) → ℕ → ℕ
-value W H bits m k g x = min (g x) (best (λ bit. in-direction W H bit m k g x) bits)
-
--- the key of a plate at a place
-abbrev pub keyAt : List ℤ → ℕ → ℕ
-keyAt f p = key (levelAt f p)
 
 -- ---- one direction
 

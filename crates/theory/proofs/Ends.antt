@@ -7,16 +7,11 @@ use mathlib.Core.Bool.{Bool, true, false, cond}
 use mathlib.Core.List.{List, List·Memᴰ}
 use mathlib.Core.Logic.{⊎-elim}
 use native.Mathlib.Omega.{arith}
+use Rattle.theory.specs.Walks.{Walk, Walk.stop, Walk.go}
+use Rattle.theory.specs.BestWalks.{best, under, lowPixels, alone, fewer, reach, reachFrom}
 use Rattle.basics.proofs.Numbers.{le-or-lt}
-use Rattle.theory.proofs.Walks.{Walk, Walk.stop, Walk.go}
-use Rattle.theory.proofs.Maxima.{best, best-find, best-keep, best-least, best-mono, best-same}
-use Rattle.theory.proofs.LevelSets.{under, under-low, under-high, lowPixels, alone, fewer, reach, reach-bound, Good}
-
--- the highest key t at which a walk of m steps from p, to a pixel that passes the test, has at most j pixels below t
-unfoldable pub reachFrom : (ℕ → List ℕ) → (ℕ → ℕ) → (ℕ → Bool) → ℕ → ℕ → ℕ → ℕ
-reachFrom next g ends zero j p = cond (ends p) (alone (g p) j) 0
-reachFrom next g ends (suc m) j p =
-    max (min (g p) (best (reachFrom next g ends m j) (next p))) (fewer (λ i. best (reachFrom next g ends m i) (next p)) j)
+use Rattle.theory.proofs.Maxima.{best-find, best-keep, best-least, best-mono, best-same}
+use Rattle.theory.proofs.LevelSets.{under-low, under-high, reach-bound, Good}
 
 abbrev pub anywhere : ℕ → Bool
 anywhere p = true

@@ -7,10 +7,13 @@ use mathlib.Core.Bool.{Bool}
 use mathlib.Core.List.{List, List·Memᴰ}
 use mathlib.Core.Logic.{⊎-elim}
 use native.Mathlib.Omega.{arith}
+use Rattle.theory.specs.BestWalks.{best, fewer, reach}
+use Rattle.theory.specs.Walks.{around}
+use Rattle.theory.specs.Ranks.{room}
 use Rattle.basics.proofs.Numbers.{le-or-lt}
-use Rattle.theory.proofs.Maxima.{best, best-find, best-mono}
-use Rattle.theory.proofs.LevelSets.{fewer, reach, reach-step, reach-start, reach-good, reach-more-gaps}
-use Rattle.theory.proofs.Sides.{around, room, Side}
+use Rattle.theory.proofs.Maxima.{best-find, best-mono}
+use Rattle.theory.proofs.LevelSets.{reach-step, reach-start, reach-good, reach-more-gaps}
+use Rattle.theory.proofs.Sides.{Side}
 
 module _ (next : ℕ → List ℕ) (g : ℕ → ℕ) (bounded : (p : ℕ) → g p ≤ 65535) (t : ℕ) where
   -- the pixel is not below t: the others may have as many gaps

@@ -13,9 +13,10 @@ use Rattle.basics.proofs.Order.{lt-or-le, ≤ℤ-<ℤ-trans, ≤ℤ-antisym, lt
 use Rattle.plate.specs.Levels.{lowest}
 use Rattle.plate.specs.Opening.{levelAt, openedAt, opened}
 use Rattle.plate.specs.declared.setting.Setting.{Setting}
+use Rattle.theory.specs.Modes.{Levels}
 use Rattle.plate.proofs.Keys.{lowest-le}
 use Rattle.theory.proofs.Admission.{admits-by-below}
-use Rattle.theory.proofs.Opening.{Levels, Counts, recounted, counts-along, counts-on, opened-length, levelAt-opened, openedAt-size, opened-levels, opened-below-own, opened-counts-or-lowest, opened-highest}
+use Rattle.theory.proofs.Opening.{Counts, recounted, counts-along, counts-on, opened-length, levelAt-opened, openedAt-size, opened-levels, opened-below-own, opened-counts-or-lowest, opened-highest}
 
 module _ (s : Setting) (W H : ℕ) (f : List ℤ) (l : Levels f) where
   -- a pixel of a path that counts at t is below t before exactly if it is after

@@ -9,33 +9,10 @@ use mathlib.Core.Logic.{⊎-elim}
 use native.Mathlib.Omega.{arith}
 use lib.Dec.{ltb}
 use borrow.Author.Tests.{lt-ltb, le-ltb}
+use Rattle.theory.specs.Walks.{Walk, Walk.stop, Walk.go}
+use Rattle.theory.specs.BestWalks.{best, under, lowPixels, fewer, alone, reach}
 use Rattle.basics.proofs.Numbers.{le-or-lt, le-max-split, known-below}
-use Rattle.theory.proofs.Walks.{Walk, Walk.stop, Walk.go}
-use Rattle.theory.proofs.Maxima.{best, best-find, best-keep, best-least, best-mono, best-same}
-
--- 1 where the key a is below t
-unfoldable pub under : ℕ → ℕ → ℕ
-under t a = cond (ltb a t) 1 0
-
--- how many pixels of a path have a key below t
-unfoldable pub lowPixels : (ℕ → ℕ) → ℕ → List ℕ → ℕ
-lowPixels g t [] = 0
-lowPixels g t (p ∷ path) = under t (g p) + lowPixels g t path
-
--- g at one gap fewer, 0 where there is none to spend
-unfoldable pub fewer : (ℕ → ℕ) → ℕ → ℕ
-fewer g zero = 0
-fewer g (suc j) = g j
-
--- the highest key at which a single pixel of key a counts: its own, or any where it may be a gap
-unfoldable pub alone : ℕ → ℕ → ℕ
-alone a zero = a
-alone a (suc j) = 65535
-
--- the highest key t at which a walk of m steps from p has at most j pixels below t: the first pixel is at least t, or it is a gap
-unfoldable pub reach : (ℕ → List ℕ) → (ℕ → ℕ) → ℕ → ℕ → ℕ → ℕ
-reach next g zero j p = alone (g p) j
-reach next g (suc m) j p = max (min (g p) (best (reach next g m j) (next p))) (fewer (λ i. best (reach next g m i) (next p)) j)
+use Rattle.theory.proofs.Maxima.{best-find, best-keep, best-least, best-mono, best-same}
 
 -- some walk of m steps from p has at most j pixels below t
 pub record Good (next : ℕ → List ℕ) (g : ℕ → ℕ) (t m j p : ℕ) : Type 0 where

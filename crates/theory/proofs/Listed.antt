@@ -11,7 +11,7 @@ use lib.ListN.{length, getD}
 use Rattle.basics.proofs.Lists.{any-find, any-keep, flatMap-find, flatMap-keep, map-find, map-keep, upFrom-find, upFrom-has, upFrom-length, upFrom-at}
 use Rattle.plate.specs.Directions.{chosen}
 use Rattle.plate.specs.Paths.{next, places, pathsFrom, pathsIn, paths, through, crossed}
-use Rattle.theory.proofs.Walks.{Walk, Walk.stop, Walk.go}
+use Rattle.theory.specs.Walks.{Walk, Walk.stop, Walk.go}
 use Rattle.theory.proofs.Steps.{next-on}
 
 -- ---- the places of the plate: exactly the numbers below W × H, in their order

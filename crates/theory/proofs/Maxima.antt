@@ -6,17 +6,9 @@ use mathlib.Core.List.{List, [], _∷_, List·Memᴰ, List·Memᴰ·head, List·
 use mathlib.Core.Logic.{⊎-elim}
 use native.Mathlib.Omega.{arith}
 use Rattle.basics.specs.Lists.{upFrom}
+use Rattle.theory.specs.BestWalks.{best, upto}
 use Rattle.basics.proofs.Numbers.{le-or-lt, le-max-split}
 use Rattle.basics.proofs.Lists.{upFrom-find, upFrom-has}
-
--- the greatest of g over some places, 0 where there is none
-unfoldable pub best : (ℕ → ℕ) → List ℕ → ℕ
-best g [] = 0
-best g (q ∷ qs) = max (g q) (best g qs)
-
--- the greatest of g 0, .., g n
-unfoldable pub upto : (ℕ → ℕ) → ℕ → ℕ
-upto g n = best g (upFrom 0 (suc n))
 
 -- ---- over a list
 

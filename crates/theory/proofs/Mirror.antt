@@ -16,13 +16,10 @@ use Rattle.plate.specs.Levels.{lowest, mirror}
 use Rattle.plate.specs.Paths.{crossed}
 use Rattle.plate.specs.Opening.{levelAt, openedAt, opened, closed, filtered}
 use Rattle.plate.specs.declared.setting.Setting.{Setting}
+use Rattle.theory.specs.Modes.{Levels, turned}
 use Rattle.plate.proofs.Keys.{mirror-mirror, mirror-size, mirror-reverses}
-use Rattle.theory.proofs.Opening.{Levels, levels-within, Counts, opened-length, levelAt-opened, opened-levels, opened-below-own, opened-attained, opened-highest, opened-uncrossed, opened-monotone}
+use Rattle.theory.proofs.Opening.{levels-within, Counts, opened-length, levelAt-opened, opened-levels, opened-below-own, opened-attained, opened-highest, opened-uncrossed, opened-monotone}
 use Rattle.theory.proofs.Idempotent.{opened-idempotent}
-
--- a level as the mode looks at it
-unfoldable pub turned : Setting → ℤ → ℤ
-turned s v = cond (eqb (s .mode) 0) v (mirror v)
 
 module _ (s : Setting) where
   -- the two modes, as a proof goes through them

@@ -18,14 +18,11 @@ use Rattle.plate.specs.Levels.{lowest, level, key}
 use Rattle.plate.specs.Paths.{places, paths, through, crossed}
 use Rattle.plate.specs.Opening.{levelAt, admits, kept, openedAt, opened}
 use Rattle.plate.specs.declared.setting.Setting.{Setting}
+use Rattle.theory.specs.Modes.{Levels}
 use Rattle.plate.proofs.Keys.{lowest-le}
 use Rattle.theory.proofs.Listed.{places-length, places-at, through-mem, mem-through, listed-on, crossed-find, crossed-keep}
 use Rattle.theory.proofs.Highest.{highest-size, highest-not-above, highest-passes-or-lowest, passing-not-above-highest, highest-is}
 use Rattle.theory.proofs.Admission.{admitted-antitone, admitted-monotone, admitted-lowest}
-
--- every level has 16 bits
-pub record Levels (f : List ℤ) : Type 0 where
-  pub size : (p : ℕ) → mag (levelAt f p) < 32768
 
 -- it is enough to look at the plate: past its end the level is the lowest
 pub levels-within : (f : List ℤ) → ((p : ℕ) → p < length f → mag (levelAt f p) < 32768) → Levels f

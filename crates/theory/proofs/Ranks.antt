@@ -15,16 +15,11 @@ use Rattle.basics.proofs.Numbers.{le-or-lt, below-four}
 use Rattle.basics.proofs.Lists.{one-of-three}
 use Rattle.plate.specs.Directions.{Step, Direction, table, stepsIn, steps}
 use Rattle.plate.specs.Paths.{next, span}
+use Rattle.theory.specs.Walks.{back}
+use Rattle.theory.specs.Ranks.{rankAt, rank}
 use Rattle.theory.proofs.Steps.{column-below, row-below}
 use Rattle.theory.proofs.Moves.{gain, loss, Move, reached-move, move-reached}
-use Rattle.theory.proofs.Reversal.{back, turn}
-
--- the rank of column c and row r: rows from the bottom for north, columns from the left for east, both together on the diagonals
-unfoldable pub rankAt : ℕ → ℕ → ℕ → ℕ → ℕ
-rankAt H bit c r = cond (eqb bit 1) (H - 1 - r) (cond (eqb bit 2) c (cond (eqb bit 4) (c + (H - 1 - r)) (c + r)))
-
-unfoldable pub rank : ℕ → ℕ → ℕ → ℕ → ℕ
-rank W H bit p = rankAt H bit (p % W) (p / W)
+use Rattle.theory.proofs.Reversal.{turn}
 
 -- ---- in columns and rows
 

@@ -4,8 +4,8 @@ use mathlib.Core.Path.{_≡_, refl, sym, ap, _∙_}
 use mathlib.Core.List.{List, [], _∷_, List·Memᴰ}
 use native.Mathlib.Omega.{arith}
 use lib.ListN.{length, getD}
-use Rattle.theory.proofs.Walks.{Walk, Walk.stop, Walk.go}
-use Rattle.theory.proofs.LevelSets.{under, lowPixels}
+use Rattle.theory.specs.Walks.{Walk, Walk.stop, Walk.go}
+use Rattle.theory.specs.BestWalks.{under, lowPixels, lowFrom}
 
 pub recorded-walk :
     (next : ℕ → List ℕ) (m : ℕ) (path : List ℕ) → length path ≡ suc m → ((i : ℕ) → i < m → List·Memᴰ (getD path (suc i) 0) (next (getD path i 0))) →
@@ -16,11 +16,6 @@ recorded-walk next zero (p ∷ q ∷ path) e steps = absurd (omega arith)
 recorded-walk next (suc m) (p ∷ []) e steps = absurd (omega arith)
 recorded-walk next (suc m) (p ∷ q ∷ path) e steps =
     go (steps 0 (omega arith)) (recorded-walk next m (q ∷ path) (omega arith) (λ i l. steps (suc i) (omega arith)))
-
--- how many of the n pixels from index a on are low
-unfoldable pub lowFrom : (ℕ → ℕ) → ℕ → List ℕ → ℕ → ℕ → ℕ
-lowFrom g t path a zero = 0
-lowFrom g t path a (suc n) = under t (g (getD path a 0)) + lowFrom g t path (suc a) n
 
 module _ (g : ℕ → ℕ) (t : ℕ) where
   low-later : (p : ℕ) (path : List ℕ) (a n : ℕ) → lowFrom g t (p ∷ path) (suc a) n ≡ lowFrom g t path a n

@@ -8,19 +8,12 @@ use lib.IntN.{ℤ, pos, negsuc, negℤ, negℤ-negℤ}
 use Rattle.basics.proofs.Lists.{map-keep, map-undone, reverseAux-left}
 use Rattle.plate.specs.Directions.{Step, steps}
 use Rattle.plate.specs.Paths.{reachedBy, next, pathsIn}
+use Rattle.theory.specs.Walks.{Walk, WalkOf, minus, back}
 use Rattle.theory.proofs.Steps.{reached-on}
 use Rattle.theory.proofs.Moves.{gain, loss, Move, reached-move, move-reached}
-use Rattle.theory.proofs.Walks.{Walk, WalkOf, walk-first}
+use Rattle.theory.proofs.Walks.{walk-first}
 use Rattle.theory.proofs.Cutting.{reversed}
 use Rattle.theory.proofs.Listed.{listed-walk, walk-listed, walk-started}
-
--- a step with both changes negated
-unfoldable pub minus : Step → Step
-minus s = record { column = negℤ (s .column); row = negℤ (s .row) }
-
--- the places from which one step of a direction leads to q
-unfoldable pub back : ℕ → ℕ → ℕ → ℕ → List ℕ
-back W H bit q = reachedBy W H (map minus (steps bit)) q
 
 -- what a change adds, the negated change takes away
 gain-minus : (z : ℤ) → gain (negℤ z) ≡ loss z

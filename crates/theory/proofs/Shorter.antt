@@ -8,7 +8,8 @@ use native.Mathlib.Omega.{arith}
 use lib.Dec.{T}
 use Rattle.basics.proofs.Numbers.{le-or-lt}
 use Rattle.plate.specs.Paths.{next, pathsIn, through}
-use Rattle.theory.proofs.Walks.{Walk, Walk.stop, Walk.go, walk-first, walk-starts}
+use Rattle.theory.specs.Walks.{Walk, Walk.stop, Walk.go}
+use Rattle.theory.proofs.Walks.{walk-first, walk-starts}
 use Rattle.theory.proofs.Listed.{through-mem, mem-through, Listed, listed-walk, walk-listed, walk-stays}
 
 -- the first k steps of a walk from p with the pixels ps

@@ -6,28 +6,13 @@ use mathlib.Core.Bool.{Bool, true, false}
 use mathlib.Core.List.{List, [], _∷_, List·Memᴰ}
 use native.Mathlib.Omega.{arith}
 use Rattle.plate.specs.Paths.{next, span}
-use Rattle.theory.proofs.Walks.{Walk, Walk.stop, WalkFrom, step-first}
+use Rattle.theory.specs.Walks.{Walk, Walk.stop, WalkFrom, back, around}
+use Rattle.theory.specs.Ranks.{rank, room, other}
+use Rattle.theory.proofs.Walks.{step-first}
 use Rattle.theory.proofs.Steps.{next-on}
-use Rattle.theory.proofs.Reversal.{back, turn-back}
-use Rattle.theory.proofs.Ranks.{rank, bits, Ranked, ranked}
+use Rattle.theory.proofs.Reversal.{turn-back}
+use Rattle.theory.proofs.Ranks.{bits, Ranked, ranked}
 use Rattle.theory.proofs.Span.{walk-fits, back-fits}
-
--- the places to which one step of a direction leads, or from which it leads here
-unfoldable pub around : Bool → ℕ → ℕ → ℕ → ℕ → List ℕ
-around true W H bit p = back W H bit p
-around false W H bit p = next W H bit p
-
--- how many steps lead on from p: up to the highest rank, or back to the lowest
-abbrev pub room : ℕ → ℕ → ℕ → Bool → ℕ → ℕ
-room W H bit true p = rank W H bit p
-room W H bit false p = span W H bit - 1 - rank W H bit p
-
-abbrev pub opposite : Bool → Bool
-opposite true = false
-opposite false = true
-
-abbrev pub other : ℕ → ℕ → ℕ → Bool → ℕ → ℕ
-other W H bit side p = room W H bit (opposite side) p
 
 pub record Side (W H bit : ℕ) (side : Bool) : Type 0 where
   -- a walk has no more steps than its first pixel has room

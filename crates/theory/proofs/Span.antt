@@ -11,12 +11,14 @@ use Rattle.basics.proofs.Lists.{any-find, any-keep, keep-find, reverseAux-right
 use Rattle.basics.proofs.Tests.{same-test}
 use Rattle.plate.specs.Directions.{member, chosen}
 use Rattle.plate.specs.Paths.{next, pathsIn, through, crossed, span}
-use Rattle.theory.proofs.Walks.{Walk, Walk.stop, Walk.go, WalkFrom, walk-first, step-first}
+use Rattle.theory.specs.Walks.{Walk, Walk.stop, Walk.go, WalkFrom, back}
+use Rattle.theory.specs.Ranks.{rank}
+use Rattle.theory.proofs.Walks.{walk-first, step-first}
 use Rattle.theory.proofs.Steps.{next-on}
 use Rattle.theory.proofs.Cutting.{join}
 use Rattle.theory.proofs.Listed.{through-mem, mem-through, listed-walk, walk-listed, walk-started, paths-find, paths-keep, crossed-find, crossed-keep}
-use Rattle.theory.proofs.Reversal.{back, back-on, turn-back}
-use Rattle.theory.proofs.Ranks.{rank, bits, Ranked, ranked}
+use Rattle.theory.proofs.Reversal.{back-on, turn-back}
+use Rattle.theory.proofs.Ranks.{bits, Ranked, ranked}
 
 -- ---- over any direction with ranks: how many steps lead on from a pixel, and how many lead to it
 

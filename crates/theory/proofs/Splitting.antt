@@ -4,10 +4,12 @@ use Prim.Native.Nat.{ℕ, _+_, _-_, _≤_}
 use mathlib.Core.Path.{_≡_, ap, _∙_}
 use mathlib.Core.List.{List, [], _∷_, tail, reverseAux, List·Memᴰ}
 use native.Mathlib.Omega.{arith}
+use Rattle.theory.specs.Walks.{Walk}
+use Rattle.theory.specs.BestWalks.{under, lowPixels, reach}
 use Rattle.basics.proofs.Lists.{reverseAux-right}
-use Rattle.theory.proofs.Walks.{Walk, walk-first, walk-starts}
+use Rattle.theory.proofs.Walks.{walk-first, walk-starts}
 use Rattle.theory.proofs.Cutting.{Cut, cut, join}
-use Rattle.theory.proofs.LevelSets.{under, under-high, lowPixels, reach, reach-good, good-reach}
+use Rattle.theory.proofs.LevelSets.{under-high, reach-good, good-reach}
 
 -- some walk of m steps goes through x and has at most k pixels below t
 pub record Crossing (next : ℕ → List ℕ) (g : ℕ → ℕ) (t m k x : ℕ) : Type 0 where

@@ -7,27 +7,26 @@ use mathlib.Core.Logic.{⊎-elim}
 use native.Mathlib.Omega.{arith}
 use Rattle.basics.proofs.Numbers.{le-or-lt, known-below}
 use Rattle.plate.specs.Paths.{next}
-use Rattle.theory.proofs.Walks.{Walk}
+use Rattle.theory.specs.Walks.{Walk, back}
+use Rattle.theory.specs.BestWalks.{joinedAt, across, in-direction, value, term}
 use Rattle.theory.proofs.Steps.{next-on}
-use Rattle.theory.proofs.Reversal.{back, turn-back, back-on}
+use Rattle.theory.proofs.Reversal.{turn-back, back-on}
 use Rattle.theory.proofs.Maxima.{best-keep, best-least, upto-keep, upto-least}
 use Rattle.theory.proofs.LevelSets.{reach-same}
 use Rattle.theory.proofs.Splitting.{unsplit}
-use Rattle.theory.proofs.Decomposition.{joinedAt, across, in-direction, value, across-find}
+use Rattle.theory.proofs.Decomposition.{across-find}
 
 -- ---- one direction
 
 module _ (W H bit m k : ℕ) (g : ℕ → ℕ) (x : ℕ) where
-  abbrev pub term : ℕ → ℕ → ℕ
-  term = joinedAt (next W H bit) (back W H bit) g m k x
-
-  pub across-term : (l i : ℕ) → l ≤ m → i ≤ k → term l i ≤ in-direction W H bit m k g x
+  pub across-term : (l i : ℕ) → l ≤ m → i ≤ k → term W H bit m k g x l i ≤ in-direction W H bit m k g x
   unfolding across
-  across-term l i hl hi = upto-keep _ (term l i) m l hl (upto-keep (term l) (term l i) k i hi (omega arith))
+  across-term l i hl hi =
+      upto-keep _ (term W H bit m k g x l i) m l hl (upto-keep (term W H bit m k g x l) (term W H bit m k g x l i) k i hi (omega arith))
 
-  pub across-least : (b : ℕ) → ((l i : ℕ) → l ≤ m → i ≤ k → term l i ≤ b) → in-direction W H bit m k g x ≤ b
+  pub across-least : (b : ℕ) → ((l i : ℕ) → l ≤ m → i ≤ k → term W H bit m k g x l i ≤ b) → in-direction W H bit m k g x ≤ b
   unfolding across
-  across-least b h = upto-least _ b m (λ l hl. upto-least (term l) b k (λ i hi. h l i hl hi))
+  across-least b h = upto-least _ b m (λ l hl. upto-least (term W H bit m k g x l) b k (λ i hi. h l i hl hi))
 
   -- where no walk of m steps crosses x
   pub across-none : ((p : ℕ) (ps : List ℕ) → Walk (next W H bit) m p ps → List·Memᴰ x ps → ⊥) → in-direction W H bit m k g x ≡ 0

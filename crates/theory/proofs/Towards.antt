@@ -9,12 +9,13 @@ use mathlib.Core.Logic.{_⊎_, ⊎-elim}
 use native.Mathlib.Omega.{arith}
 use lib.Dec.{eqb}
 use borrow.Author.Tests.{eqb-true, eq-eqb}
+use Rattle.theory.specs.Walks.{around, opposite}
+use Rattle.theory.specs.BestWalks.{reach, reachFrom}
 use Rattle.basics.proofs.Numbers.{le-or-lt, known-below}
 use Rattle.theory.proofs.Steps.{next-on}
 use Rattle.theory.proofs.Reversal.{turn, turn-back, back-on}
-use Rattle.theory.proofs.Sides.{around, opposite}
-use Rattle.theory.proofs.LevelSets.{reach, reach-bound, reach-good, good-reach}
-use Rattle.theory.proofs.Ends.{reachFrom, from-bound, from-turned, turned-from}
+use Rattle.theory.proofs.LevelSets.{reach-bound, reach-good, good-reach}
+use Rattle.theory.proofs.Ends.{from-bound, from-turned, turned-from}
 
 -- the highest key at which a walk of m steps from x to q has at most j pixels below it
 abbrev pub towards : Bool → ℕ → ℕ → ℕ → (ℕ → ℕ) → ℕ → ℕ → ℕ → ℕ → ℕ

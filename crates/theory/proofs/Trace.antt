@@ -20,10 +20,10 @@ use Rattle.plate.specs.declared.setting.Setting.{Setting}
 use Rattle.plate.proofs.Keys.{mirror-ltZ}
 use Rattle.plate.proofs.Verdicts.{Clear, clear-accepted, accepted-clear}
 use Rattle.theory.specs.Trace.{short, better, Shows}
+use Rattle.theory.specs.Modes.{Levels, turned}
 use Rattle.theory.proofs.Listed.{through-mem, listed-on, paths-keep}
 use Rattle.theory.proofs.Admission.{admitted-few, few-admitted}
-use Rattle.theory.proofs.Opening.{Levels}
-use Rattle.theory.proofs.Mirror.{turned, turned-size, as-mode, levelAt-turned, filtered-length, filtered-levels, filtered-highest, filtered-idempotent}
+use Rattle.theory.proofs.Mirror.{turned-size, as-mode, levelAt-turned, filtered-length, filtered-levels, filtered-highest, filtered-idempotent}
 
 -- ---- counts and orders by the mode are those of the turned plate
 

@@ -4,20 +4,7 @@ use Prim.Native.Nat.{ℕ, zero, suc}
 use mathlib.Core.Path.{_≡_, refl, ap}
 use mathlib.Core.List.{List, [], _∷_, tail, List·Memᴰ, List·Memᴰ·head}
 use lib.ListN.{length}
-
--- a walk of m steps from p, and its pixels in walking order
-pub data Walk (next : ℕ → List ℕ) : ℕ → ℕ → List ℕ → Type 0 where
-  stop : {p : ℕ} → Walk next zero p (p ∷ [])
-  go : {m p q : ℕ} {ps : List ℕ} → List·Memᴰ q (next p) → Walk next m q ps → Walk next (suc m) p (p ∷ ps)
-
--- a walk of m steps that has the pixels ps, from wherever it starts; and one that starts at p, over whatever pixels it goes
-pub record WalkOf (next : ℕ → List ℕ) (m : ℕ) (ps : List ℕ) : Type 0 where
-  pub start : ℕ
-  pub walk : Walk next m start ps
-
-pub record WalkFrom (next : ℕ → List ℕ) (m p : ℕ) : Type 0 where
-  pub pixels : List ℕ
-  pub walk : Walk next m p pixels
+use Rattle.theory.specs.Walks.{Walk, Walk.stop, Walk.go, WalkFrom}
 
 pub walk-length : {next : ℕ → List ℕ} {m p : ℕ} {ps : List ℕ} → Walk next m p ps → length ps ≡ suc m
 walk-length stop = refl

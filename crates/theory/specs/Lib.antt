@@ -1,2 +1,8 @@
-pub mod WorkedPlates
+-- what a reader has to believe: demand 3, and the worked plates
 pub mod Trace
+pub mod WorkedPlates
+-- what serves the engine's inner contracts and the laws
+pub mod Walks
+pub mod Ranks
+pub mod BestWalks
+pub mod Modes

@@ -11,11 +11,11 @@ use Rattle.basics.proofs.Numbers.{le-or-lt}
 use Rattle.basics.proofs.Lists.{getD-in}
 use Rattle.plate.specs.Paths.{next}
 use Rattle.theory.proofs.Reversal.{turn-back}
-use Rattle.theory.proofs.Sides.{around}
-use Rattle.theory.proofs.LevelSets.{under, lowPixels}
-use Rattle.theory.proofs.Recorded.{recorded-walk, lowFrom, low-recorded, low-split, low-same}
+use Rattle.theory.proofs.Recorded.{recorded-walk, low-recorded, low-split, low-same}
 use Rattle.tracing.specs.Following.{Trail, lowAlong}
 use Rattle.tracing.specs.Drawing.{Drawn}
+use Rattle.theory.specs.Walks.{around}
+use Rattle.theory.specs.BestWalks.{under, lowPixels, lowFrom}
 
 module _ (W H bit : ℕ) (g : ℕ → ℕ) (t m k x l i : ℕ) (first mid path : List ℕ) (l≤m : l ≤ m) (i≤k : i ≤ k) (size : length first ≡ m + 1)
     (here : getD first l 0 ≡ x)

@@ -10,10 +10,10 @@ use native.Mathlib.Omega.{arith}
 use lib.ListN.{length, getD, set, length-set}
 use lib.Seq.{getD-set-same, getD-set-other}
 use Rattle.basics.proofs.Numbers.{le-or-lt}
-use Rattle.theory.proofs.LevelSets.{under}
-use Rattle.theory.proofs.Recorded.{lowFrom, low-last, low-same}
-use Rattle.theory.proofs.Sides.{around}
+use Rattle.theory.proofs.Recorded.{low-last, low-same}
 use Rattle.tracing.specs.Following.{indexAfter, Within, Behind, Trail, lowAlong}
+use Rattle.theory.specs.BestWalks.{under, lowFrom}
+use Rattle.theory.specs.Walks.{around}
 use Rattle.tracing.proofs.Trails.{index-first, index-within, within-less, behind-other}
 
 -- the low pixels more than n steps from the first one, up to m steps

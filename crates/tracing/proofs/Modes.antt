@@ -14,13 +14,13 @@ use Rattle.basics.proofs.Tests.{true-or-false}
 use Rattle.plate.specs.Levels.{key, mirror}
 use Rattle.plate.specs.Opening.{levelAt}
 use Rattle.plate.specs.declared.setting.Setting.{Setting}
-use Rattle.theory.proofs.Decomposition.{keyAt}
-use Rattle.theory.proofs.Opening.{Levels}
-use Rattle.theory.proofs.Mirror.{turned, levelAt-turned}
+use Rattle.theory.proofs.Mirror.{levelAt-turned}
 use Rattle.frames.specs.Keys.{keyBy}
 use Rattle.frames.proofs.KeyLaws.{key-plain, mirrored-key, keyBy-bound, level-read}
 use Rattle.tracing.specs.Scans.{keyOf}
 use Rattle.tracing.specs.declared.scan.Scan.{Scan}
+use Rattle.theory.specs.BestWalks.{keyAt}
+use Rattle.theory.specs.Modes.{Levels, turned}
 
 module _ (s : Setting) (v : ℤ) where
   pub turned-opening : s .mode ≡ 0 → turned s v ≡ v

@@ -11,10 +11,8 @@ use lib.Dec.{eqb}
 use lib.IntN.{ℤ}
 use borrow.Author.Tests.{eqb-true, ne-eqb}
 use Rattle.basics.proofs.Numbers.{le-or-lt, le-max-split}
-use Rattle.theory.proofs.LevelSets.{under, under-low, under-high}
-use Rattle.theory.proofs.Opening.{Levels}
-use Rattle.theory.proofs.Ends.{reachFrom, from-last}
-use Rattle.theory.proofs.Sides.{around, opposite}
+use Rattle.theory.proofs.LevelSets.{under-low, under-high}
+use Rattle.theory.proofs.Ends.{from-last}
 use Rattle.theory.proofs.Towards.{turn-opposite}
 use Rattle.rows.specs.Plans.{Sound as PlanSound, lineAt, rowLo, rowHi, rowAt, rowsIn, starts}
 use Rattle.states.specs.States.{seen, ahead, Grown}
@@ -27,6 +25,9 @@ use Rattle.tracing.specs.Following.{Tells, Picked, TapTo, StepTo, OnRow,
 use Rattle.tracing.specs.declared.follow.Stand.{Stand}
 use Rattle.tracing.specs.declared.scan.Scan.{Scan}
 use Rattle.tracing.specs.declared.sight.Sight.{Sight}
+use Rattle.theory.specs.BestWalks.{under, reachFrom}
+use Rattle.theory.specs.Modes.{Levels}
+use Rattle.theory.specs.Walks.{around, opposite}
 use Rattle.tracing.proofs.Sighting.{sight-planes, sight-across, sight-sound, sight-states-few, sight-sequence}
 use Rattle.tracing.proofs.SeenLaws.{seen-pixels, seen-first, seen-more-gaps, seen-tap-0, seen-tap-1, seen-tap-2}
 

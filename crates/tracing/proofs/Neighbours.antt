@@ -11,8 +11,8 @@ use Rattle.basics.proofs.Lists.{one-of-three}
 use Rattle.plate.specs.Directions.{Step, stepAt}
 use Rattle.plate.specs.Paths.{Reached, Reached.at, Reached.leaves, placeAt, stepFrom, reachedBy}
 use Rattle.theory.proofs.Steps.{stepped, landed-on, reached-find, reached-keep}
-use Rattle.frames.specs.Steps.{across, down}
-use Rattle.frames.proofs.Landing.{toward, less, step-place}
+use Rattle.frames.specs.Steps.{across, down, toward}
+use Rattle.frames.proofs.Landing.{less, step-place}
 use Rattle.frames.proofs.Bridge.{small-steps, around-steps}
 use Rattle.tracing.specs.Headings.{onward, roomAt, reachedAt, placeOr, Known}
 use Rattle.tracing.specs.Choosing.{Fitting, Chosen}

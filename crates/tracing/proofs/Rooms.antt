@@ -5,9 +5,9 @@ use mathlib.Core.Bool.{Bool, true, false}
 use native.Mathlib.Omega.{arith}
 use Rattle.basics.proofs.Numbers.{below-four}
 use Rattle.plate.specs.Paths.{span}
-use Rattle.theory.proofs.Ranks.{rankAt, rank, ranked, bit-listed}
-use Rattle.theory.proofs.Sides.{room}
+use Rattle.theory.proofs.Ranks.{ranked, bit-listed}
 use Rattle.tracing.specs.Headings.{shift}
+use Rattle.theory.specs.Ranks.{rankAt, rank, room}
 
 pub span-small : (W H index : ℕ) → index < 4 → W ≤ 1024 → H ≤ 1024 → span W H (2 ^ index) ≤ 2048
 unfolding span

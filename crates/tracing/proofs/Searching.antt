@@ -11,14 +11,15 @@ use native.Mathlib.Omega.{arith}
 use lib.ListN.{getD}
 use Rattle.basics.proofs.Numbers.{le-or-lt}
 use Rattle.plate.specs.Paths.{next, span}
-use Rattle.theory.proofs.Reversal.{back}
-use Rattle.theory.proofs.Ranks.{rank, bit-listed}
-use Rattle.theory.proofs.LevelSets.{reach, reach-none}
-use Rattle.theory.proofs.Sides.{around, room, Side, side}
-use Rattle.theory.proofs.Terms.{term}
+use Rattle.theory.proofs.Ranks.{bit-listed}
+use Rattle.theory.proofs.LevelSets.{reach-none}
+use Rattle.theory.proofs.Sides.{Side, side}
 use Rattle.tracing.specs.Finding.{Noted, sharedAt, termAt, Possible, FromNotes, RowSearched, Searched, Attained, FoundIn}
 use Rattle.tracing.specs.declared.find.Found.{Found}
 use Rattle.tracing.specs.declared.find.Notes.{Notes}
+use Rattle.theory.specs.Walks.{back, around}
+use Rattle.theory.specs.Ranks.{rank, room}
+use Rattle.theory.specs.BestWalks.{reach, term}
 use Rattle.tracing.proofs.Rooms.{rank-below}
 
 -- ---- one row

@@ -8,9 +8,7 @@ use mathlib.Core.Logic.{⊎-elim}
 use native.Mathlib.Omega.{arith}
 use lib.Dec.{eqb}
 use lib.IntN.{ℤ}
-use Rattle.theory.proofs.Opening.{Levels}
 use Rattle.theory.proofs.Ends.{from-more-gaps}
-use Rattle.theory.proofs.Sides.{around, opposite}
 use Rattle.theory.proofs.Towards.{towards}
 use Rattle.frames.specs.Frames.{placeIn}
 use Rattle.rows.specs.Plans.{rowLo, rowHi, rowsIn}
@@ -23,6 +21,8 @@ use Rattle.tracing.specs.Scans.{Sound, bitOf, keyOf}
 use Rattle.tracing.specs.Sights.{Seen, seenAt}
 use Rattle.tracing.specs.declared.scan.Scan.{Scan}
 use Rattle.tracing.specs.declared.sight.Sight.{Sight}
+use Rattle.theory.specs.Modes.{Levels}
+use Rattle.theory.specs.Walks.{around, opposite}
 use Rattle.tracing.proofs.Modes.{keys-bounded}
 use Rattle.tracing.proofs.Sighting.{sight-rows}
 

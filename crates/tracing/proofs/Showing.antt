@@ -23,20 +23,22 @@ use Rattle.plate.proofs.Sizes.{GoodSize, good-size}
 use Rattle.plate.proofs.Verdicts.{Clear, clear-accepted}
 use Rattle.theory.specs.Trace.{Shows}
 use Rattle.theory.proofs.Listed.{mem-through, walk-listed, walk-started, walk-stays}
-use Rattle.theory.proofs.Ranks.{rank, bit-listed}
+use Rattle.theory.proofs.Ranks.{bit-listed}
 use Rattle.theory.proofs.Span.{chosen-bits}
 use Rattle.theory.proofs.LevelSets.{reach-none, low-pixels-same}
-use Rattle.theory.proofs.Sides.{around, side}
-use Rattle.theory.proofs.Reversal.{back}
-use Rattle.theory.proofs.Opening.{Levels}
-use Rattle.theory.proofs.Mirror.{turned, turned-turned, turned-levels, levelAt-filtered}
-use Rattle.theory.proofs.Decomposition.{keyAt, value, opened-value, low-admitted}
-use Rattle.theory.proofs.Terms.{term, value-term, value-least, value-same}
+use Rattle.theory.proofs.Sides.{side}
+use Rattle.theory.proofs.Mirror.{turned-turned, turned-levels, levelAt-filtered}
+use Rattle.theory.proofs.Decomposition.{opened-value, low-admitted}
+use Rattle.theory.proofs.Terms.{value-term, value-least, value-same}
 use Rattle.theory.proofs.Trace.{shows}
 use Rattle.engine.specs.Finishing.{Accepted}
 use Rattle.tracing.specs.Finding.{BestOf, keysBy}
 use Rattle.tracing.specs.Drawing.{Drawn}
 use Rattle.tracing.specs.declared.find.Found.{Found}
+use Rattle.theory.specs.Ranks.{rank}
+use Rattle.theory.specs.Walks.{around, back}
+use Rattle.theory.specs.Modes.{Levels, turned}
+use Rattle.theory.specs.BestWalks.{keyAt, value, term}
 use Rattle.tracing.proofs.Directions.{index-at, chosen-usable, usable-chosen}
 use Rattle.tracing.proofs.Modes.{keys-turned}
 use Rattle.tracing.proofs.Rooms.{rank-below}

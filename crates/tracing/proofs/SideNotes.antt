@@ -10,7 +10,6 @@ use native.Mathlib.Omega.{arith}
 use lib.ListN.{getD}
 use lib.IntN.{ℤ}
 use Rattle.basics.proofs.Numbers.{le-or-lt, rows-fit}
-use Rattle.theory.proofs.Opening.{Levels}
 use Rattle.theory.proofs.Towards.{towards, towards-best}
 use Rattle.frames.specs.Frames.{placeIn}
 use Rattle.rows.specs.Runs.{Between, Apart}
@@ -23,6 +22,7 @@ use Rattle.tracing.specs.Noting.{Lifted, NotesFit}
 use Rattle.tracing.specs.Finding.{Noted, cells}
 use Rattle.tracing.specs.declared.scan.Scan.{Scan}
 use Rattle.tracing.specs.declared.sight.Sight.{Sight}
+use Rattle.theory.specs.Modes.{Levels}
 use Rattle.tracing.proofs.Modes.{keys-bounded}
 use Rattle.tracing.proofs.Noting.{FromSide}
 use Rattle.tracing.proofs.Sighting.{sight-planes, sight-steps-few, sight-rows}

@@ -9,8 +9,7 @@ use lib.ListN.{length}
 use lib.IntN.{ℤ}
 use lib.Signed.{mag}
 use Rattle.plate.specs.Opening.{levelAt}
-use Rattle.theory.proofs.Opening.{Levels, levels-within}
-use Rattle.theory.proofs.Sides.{opposite}
+use Rattle.theory.proofs.Opening.{levels-within}
 use Rattle.theory.proofs.Towards.{towards}
 use Rattle.frames.specs.Frames.{placeIn}
 use Rattle.frames.specs.declared.frame.Frame.{Frame}
@@ -28,6 +27,8 @@ use Rattle.tracing.specs.Scans.{Sound, bitOf, keyOf}
 use Rattle.tracing.specs.Sights.{Seen, seenAt}
 use Rattle.tracing.specs.declared.scan.Scan.{Scan}
 use Rattle.tracing.specs.declared.sight.Sight.{Sight}
+use Rattle.theory.specs.Modes.{Levels}
+use Rattle.theory.specs.Walks.{opposite}
 
 pub not-opposite : (b : Bool) → not b ≡ opposite b
 not-opposite true = refl

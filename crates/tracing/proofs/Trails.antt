@@ -10,9 +10,9 @@ use lib.ListN.{length, getD, set, length-set}
 use lib.Seq.{getD-set-same, getD-set-other}
 use Rattle.basics.proofs.Numbers.{le-or-lt}
 use Rattle.theory.proofs.LevelSets.{under-high}
-use Rattle.theory.proofs.Recorded.{lowFrom}
-use Rattle.theory.proofs.Sides.{around}
 use Rattle.tracing.specs.Following.{indexAfter, Within, Behind, Trail, lowAlong}
+use Rattle.theory.specs.BestWalks.{lowFrom}
+use Rattle.theory.specs.Walks.{around}
 
 -- ---- the indices of a trail
 

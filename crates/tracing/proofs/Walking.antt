@@ -8,8 +8,6 @@ use native.Mathlib.Omega.{arith}
 use lib.ListN.{length, getD, set}
 use lib.IntN.{ℤ}
 use Rattle.basics.proofs.Numbers.{rows-fit}
-use Rattle.theory.proofs.LevelSets.{under}
-use Rattle.theory.proofs.Opening.{Levels}
 use Rattle.theory.proofs.Towards.{towards-find}
 use Rattle.rows.specs.Plans.{rowsIn, stateSize, keysSize}
 use Rattle.rows.specs.Runs.{Between}
@@ -25,6 +23,8 @@ use Rattle.tracing.specs.Following.{Leads, Within, Trail, indexAfter, lo
 use Rattle.tracing.specs.declared.follow.Stand.{Stand}
 use Rattle.tracing.specs.declared.scan.Scan.{Scan}
 use Rattle.tracing.specs.declared.sight.Sight.{Sight}
+use Rattle.theory.specs.BestWalks.{under}
+use Rattle.theory.specs.Modes.{Levels}
 use Rattle.tracing.proofs.Inward.{Inward, inward-nearer, inward-trail, inward-few}
 use Rattle.tracing.proofs.Picking.{picked-held}
 use Rattle.tracing.proofs.Modes.{keys-bounded}

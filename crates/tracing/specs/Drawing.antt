@@ -3,8 +3,8 @@ use Prim.Native.Nat.{ℕ, _≤_}
 use mathlib.Core.List.{List, List·Memᴰ}
 use lib.ListN.{getD}
 use Rattle.plate.specs.Paths.{next}
-use Rattle.theory.proofs.Walks.{Walk}
-use Rattle.theory.proofs.LevelSets.{lowPixels}
+use Rattle.theory.specs.Walks.{Walk}
+use Rattle.theory.specs.BestWalks.{lowPixels}
 
 -- a walk of m steps of the direction, through x, with at most k pixels below t
 pub record Drawn (W H bit : ℕ) (g : ℕ → ℕ) (t m k x : ℕ) (path : List ℕ) : Type 0 where

@@ -10,14 +10,13 @@ use lib.IntN.{ℤ}
 use Rattle.plate.specs.Paths.{span}
 use Rattle.plate.specs.Opening.{levelAt}
 use Rattle.plate.specs.declared.setting.Setting.{Setting}
-use Rattle.theory.proofs.LevelSets.{reach}
-use Rattle.theory.proofs.Sides.{around}
-use Rattle.theory.proofs.Terms.{term}
 use Rattle.frames.specs.Keys.{keyBy}
 use Rattle.tracing.specs.Following.{Leads}
 use Rattle.tracing.specs.Usable.{usable}
 use Rattle.tracing.specs.declared.find.Found.{Found}
 use Rattle.tracing.specs.declared.find.Notes.{Notes}
+use Rattle.theory.specs.BestWalks.{reach, term}
+use Rattle.theory.specs.Walks.{around}
 
 -- the numbers of a list from a place on
 abbrev pub cells : List ℕ → ℕ → ℕ → ℕ

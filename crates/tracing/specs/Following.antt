@@ -7,9 +7,6 @@ use mathlib.Core.List.{List, List·Memᴰ}
 use mathlib.Core.Logic.{_⊎_}
 use lib.ListN.{length, getD}
 use lib.IntN.{ℤ}
-use Rattle.theory.proofs.LevelSets.{reach}
-use Rattle.theory.proofs.Sides.{around, room}
-use Rattle.theory.proofs.Recorded.{lowFrom}
 use Rattle.rows.specs.Plans.{rowLo, rowHi, rowsIn, rowSize, halfOf}
 use Rattle.states.specs.Stacks.{KeysAre, Stacked, StackFits}
 use Rattle.rows.specs.declared.plan.Plan.{Plan}
@@ -20,6 +17,9 @@ use Rattle.tracing.specs.Sights.{seenAt}
 use Rattle.tracing.specs.declared.scan.Scan.{Scan}
 use Rattle.tracing.specs.declared.sight.Sight.{Sight}
 use Rattle.tracing.specs.declared.follow.Stand.{Stand}
+use Rattle.theory.specs.BestWalks.{reach, lowFrom}
+use Rattle.theory.specs.Walks.{around}
+use Rattle.theory.specs.Ranks.{room}
 
 -- From p a walk of m steps leads on that has at most j pixels below t, and no more room than `spare` is left beside it: p stands where a path has
 -- it that is so much shorter than the longest.

@@ -5,9 +5,10 @@ use mathlib.Core.Path.{_≡_}
 use mathlib.Core.List.{List}
 use Rattle.plate.specs.Directions.{stepAt}
 use Rattle.plate.specs.Paths.{Reached, Reached.at, Reached.leaves, stepFrom, span}
-use Rattle.theory.proofs.Sides.{around, room}
-use Rattle.frames.proofs.Landing.{toward}
 use Rattle.tracing.specs.declared.heading.Heading.{Heading}
+use Rattle.theory.specs.Walks.{around}
+use Rattle.theory.specs.Ranks.{room}
+use Rattle.frames.specs.Steps.{toward}
 
 -- the direction's bit
 abbrev pub bitOf : Heading → ℕ

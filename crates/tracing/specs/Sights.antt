@@ -6,7 +6,6 @@ use mathlib.Core.Bool.{Bool}
 use mathlib.Core.List.{List}
 use lib.Dec.{eqb}
 use lib.IntN.{ℤ}
-use Rattle.theory.proofs.Sides.{around, opposite}
 use Rattle.frames.specs.Frames.{Framed}
 use Rattle.directions.specs.Plans.{FrameOf, byRows}
 use Rattle.directions.specs.Traces.{SpotOf, tracePlan, traceStates}
@@ -15,6 +14,7 @@ use Rattle.directions.specs.declared.frame.Spot.{Spot}
 use Rattle.tracing.specs.Scans.{bitOf, keyOf}
 use Rattle.tracing.specs.declared.scan.Scan.{Scan}
 use Rattle.tracing.specs.declared.sight.Sight.{Sight}
+use Rattle.theory.specs.Walks.{around, opposite}
 
 -- frame, plan and states of the walks from the pixel at x
 pub record Seen (s : Scan) (backwards : Bool) (x : ℕ) (r : Sight) : Type 0 where

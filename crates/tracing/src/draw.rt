@@ -2,10 +2,10 @@
 ghost use mathlib.Core.Path.{_≡_};
 ghost use Prim.Native.Nat.{_+_, _*_, _≤_};
 ghost use lib.ListN.{length};
-ghost use Rattle.theory.proofs.Opening.{Levels};
 ghost use Rattle.tracing.specs.Scans.{Sound, bitOf, keyOf};
 ghost use Rattle.tracing.specs.Finding.{Attained};
 ghost use Rattle.tracing.specs.Drawing.{Drawn};
+ghost use Rattle.theory.specs.Modes.{Levels};
 use crate::find::Found;
 use crate::follow::Walk;
 use crate::follow::follow;

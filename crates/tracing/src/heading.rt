@@ -1,7 +1,7 @@
 ghost use mathlib.Core.Path.{_≡_};
 ghost use Prim.Native.Nat.{_*_, _^_, _<_};
-ghost use Rattle.theory.proofs.Ranks.{rank};
 ghost use Rattle.tracing.specs.Headings.{shift, Known, bitOf, roomAt, reachedAt, placeOr};
+ghost use Rattle.theory.specs.Ranks.{rank};
 
 // A direction, walked on or back, on a plate of this size.
 pub(crate) struct Heading {

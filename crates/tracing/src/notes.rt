@@ -3,7 +3,6 @@
 ghost use mathlib.Core.Path.{_≡_};
 ghost use Prim.Native.Nat.{ℕ, _+_, _-_, _*_, _≤_, _<_};
 ghost use lib.ListN.{length, getD};
-ghost use Rattle.theory.proofs.Opening.{Levels};
 ghost use Rattle.rows.specs.Runs.{Apart};
 ghost use Rattle.rows.specs.Plans.{rowsIn, rowSize, stateSize};
 ghost use Rattle.rows.specs.Plans.{Sound as SoundPlan};
@@ -11,6 +10,7 @@ ghost use Rattle.directions.specs.Numbers.{stepsAt};
 ghost use Rattle.tracing.specs.Scans.{Sound, bitOf, keyOf};
 ghost use Rattle.tracing.specs.Noting.{Highest, Lifted, FromRow, FromState, NotesFit, rowCells, stateCells};
 ghost use Rattle.tracing.specs.Finding.{Noted, cells};
+ghost use Rattle.theory.specs.Modes.{Levels};
 use crate::scan::Scan;
 use crate::sight::sight_of;
 use rows::Plan;

@@ -7,7 +7,7 @@ ghost use Rattle.tracing.specs.Scans.{Sound, bitOf};
 ghost use Rattle.tracing.specs.Headings.{Known};
 ghost use Rattle.tracing.specs.Choosing.{Chosen};
 ghost use Rattle.tracing.specs.Following.{Within, Trail};
-ghost use Rattle.theory.proofs.Sides.{room};
+ghost use Rattle.theory.specs.Ranks.{room};
 use crate::follow::index_after;
 use crate::heading::Heading;
 use crate::heading::neighbour;

@@ -3,7 +3,7 @@ use native.Mathlib.Omega.{arith}
 use Prim.Native.Nat.{ℕ, _-_, _≤_, _<_}
 use mathlib.Core.Path.{_≡_, refl}
 use lib.ListN.{length, length-set}
-use Rattle.theory.proofs.Decomposition.{keyAt}
+use Rattle.theory.specs.BestWalks.{keyAt}
 use Rattle.engine.proofs.FinishLaws.{blank-more, blank-all}
 use Rattle.engine.proofs.finish.blank.Statement.{statement}
 use Rattle.engine.proofs.finish.blank.Tie as tie

@@ -7,8 +7,8 @@ use borrow.Author.Needs.{needs}
 use lib.ListN.{length}
 use Rattle.plate.specs.Levels.{key}
 use Rattle.plate.specs.Opening.{levelAt}
-use Rattle.theory.proofs.Decomposition.{keyAt}
 use Rattle.frames.specs.Keys.{keyBy}
+use Rattle.theory.specs.BestWalks.{keyAt}
 use Rattle.frames.proofs.KeyLaws.{level-read}
 use Rattle.engine.proofs.SweepLaws.{reached-more}
 use Rattle.engine.proofs.sweep.is_complete.Statement.{statement}

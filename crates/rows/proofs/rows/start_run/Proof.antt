@@ -6,8 +6,8 @@ use mathlib.Core.List.{List}
 use native.Mathlib.Nat.{add-mul}
 use native.Mathlib.Omega.{arith}
 use lib.ListN.{getD, length}
-use Rattle.theory.proofs.LevelSets.{alone}
 use Rattle.rows.specs.Plans.{pitchOf}
+use Rattle.theory.specs.BestWalks.{alone}
 use Rattle.rows.proofs.PlanSizes.{plane-fits}
 use Rattle.rows.proofs.PlaneLaws.{In, Planes, planes-more, planes-ends, plane-run}
 use Rattle.rows.proofs.RowLaws.{alone-later, started-first, row-started}

@@ -5,8 +5,8 @@ use mathlib.Core.Logic.{⊎-elim}
 use native.Mathlib.Omega.{arith}
 use lib.ListN.{length}
 use Rattle.plate.specs.Paths.{span}
-use Rattle.theory.proofs.Opening.{Levels}
 use Rattle.tracing.specs.Finding.{BestOf, keysBy}
+use Rattle.theory.specs.Modes.{Levels}
 use Rattle.tracing.proofs.Directions.{usable-long}
 use Rattle.tracing.proofs.Searching.{lowest-attained}
 use Rattle.tracing.proofs.Finding.{accepted-still, best-first, best-more, best-skip}

@@ -3,9 +3,9 @@ use Prim.Native.Nat.{ℕ, _-_, _≤_}
 use mathlib.Core.Path.{_≡_, refl, ap, _∙_}
 use native.Mathlib.Omega.{arith}
 use lib.ListN.{length, getD}
-use Rattle.theory.proofs.LevelSets.{under}
 use Rattle.tracing.specs.Scans.{bitOf, keyOf}
 use Rattle.tracing.specs.Following.{Stands, Kept}
+use Rattle.theory.specs.BestWalks.{under}
 use Rattle.tracing.proofs.Trails.{index-within, within-less, within-back, within-few}
 use Rattle.tracing.proofs.Inward.{Inward, inward-far}
 use Rattle.tracing.proofs.Modes.{key-read}
