@@ -1,6 +1,6 @@
 /* Corrects, opens and traces a small plate, and prints what the program `survey` prints for it.
  *
- *     cc -std=c11 -Wall -Wextra -Iinclude examples/survey.c -Ltarget/staticlib -lexports -o survey
+ *     cc -std=c11 -Wall -Wextra -Iinclude examples/survey.c -Ltarget/staticlib -ldiilvak -o survey
  */
 #include "diilvak.h"
 
@@ -27,6 +27,11 @@ int main(void)
     size_t path[LENGTH];
     size_t place, direction, number;
     int16_t level;
+
+    if (diilvak_version() != DIILVAK_VERSION) {
+        fprintf(stderr, "survey: diilvak.h is not of this library's version\n");
+        return EXIT_FAILURE;
+    }
 
     number = diilvak_correct(WIDTH, HEIGHT, readings, PIXELS, words, PIXELS, plate, PIXELS, &place);
     if (number != DIILVAK_DONE)

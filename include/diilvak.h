@@ -48,8 +48,9 @@
  *
  * REFUSALS
  *
- * Every function answers every input. The result is 0 where the call is done, and otherwise the number
- * of the first cause in this table that applies to the call:
+ * Every function answers every input. diilvak_check_setting, diilvak_correct, diilvak_filter and
+ * diilvak_trace return 0 where the call is done, and otherwise the number of the first cause in this
+ * table that applies to the call:
  *
  *     1   width or height is 0 or above 1024, or width * height is above 65536
  *     2   length is 0 or above 1024
@@ -68,6 +69,10 @@
  * diilvak_correct reports. Sizes and settings are size_t: a negative number turns into a large one
  * and is refused.
  *
+ * The results of the other three functions are no refusal numbers: diilvak_step returns whether there
+ * is such a step, 1 or 0, diilvak_work_length a length, which is 0 for a size or a gap count that would
+ * be refused, and diilvak_version the version.
+ *
  *
  * WHAT THE CALLER OWES
  *
@@ -77,7 +82,10 @@
  * without const) overlaps nothing else that is lent to the same call.
  *
  * The library allocates nothing, keeps nothing between calls, and touches no memory but what it is
- * lent and its own stack: a filter takes up to 176 KB of it, a trace up to 80 KB, whatever the plate.
+ * lent and its own stack. A filter finds room in DIILVAK_FILTER_STACK bytes of stack and a trace in
+ * DIILVAK_TRACE_STACK, whatever the plate and the setting; the other calls take next to nothing. Where a
+ * thread has less left, the call runs past its end, which the library cannot tell.
+ *
  * Calls may run at the same time in several threads, as long as none writes what another is lent. Work,
  * path and result buffers need not be cleared: what they held never changes an answer.
  */
@@ -91,14 +99,23 @@
 extern "C" {
 #endif
 
+/* The version of this header, 0.2.0, as one number: major * 10000 + minor * 100 + patch. */
+#define DIILVAK_VERSION 200
+
 /* Limits. */
 #define DIILVAK_MAX_SIDE 1024
 #define DIILVAK_MAX_PIXELS 65536
-#define DIILVAK_MAX_LENGTH 1024
-#define DIILVAK_MAX_GAPS 8
 #define DIILVAK_MAX_READING 4095
 #define DIILVAK_MIN_CORRECTION (-4096)
 #define DIILVAK_MAX_CORRECTION 4095
+#define DIILVAK_MAX_LENGTH 1024
+#define DIILVAK_MAX_GAPS 8
+#define DIILVAK_MAX_DIRECTIONS 15
+#define DIILVAK_MAX_MODE 1
+
+/* Bytes of stack in which a call finds room. */
+#define DIILVAK_FILTER_STACK 196608
+#define DIILVAK_TRACE_STACK 98304
 
 /* Bits of the directions. */
 #define DIILVAK_NORTH 1
@@ -124,6 +141,12 @@ extern "C" {
 #define DIILVAK_BAD_CORRECTION 10
 #define DIILVAK_BAD_PLACE 11
 #define DIILVAK_NO_PATH 12
+
+/* The version of the library: DIILVAK_VERSION as it was when the library was built.
+ *
+ * A program that is linked with the library of its header finds the two equal.
+ */
+size_t diilvak_version(void);
 
 /* Judges a setting.
  *

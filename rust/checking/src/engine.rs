@@ -1,0 +1,50 @@
+//! The library's calls on the types of this package.
+use crate::{Plate, Refusal, Setting, Trace};
+use diilvak::{raw, Directions, Mode};
+
+/// The same plate for the library.
+pub fn plate(plate: &Plate) -> diilvak::Plate {
+    diilvak::Plate::new(plate.width(), plate.height(), plate.levels().to_vec())
+        .expect("the library takes every plate of an allowed size")
+}
+
+/// The same setting for the library, or a refusal that applies to it.
+pub fn setting(setting: Setting) -> Result<diilvak::Setting, Refusal> {
+    let Setting { length, gaps, directions, mode } = setting;
+    let checked = || -> Result<diilvak::Setting, diilvak::Refusal> {
+        let (directions, mode) = (Directions::from_bits(directions)?, Mode::from_number(mode)?);
+        diilvak::Setting::new(length, gaps, directions, mode)
+    };
+    checked().map_err(refusal)
+}
+
+/// The four numbers, right or wrong.
+pub fn numbers(setting: Setting) -> raw::Setting {
+    let Setting { length, gaps, directions, mode } = setting;
+    raw::Setting { length, gaps, directions, mode }
+}
+
+/// A refusal by its number, with place 0 where it has none.
+pub fn refusal(refusal: diilvak::Refusal) -> Refusal {
+    Refusal { number: refusal.number(), place: refusal.place().unwrap_or(0) }
+}
+
+pub fn correct(
+    width: usize,
+    height: usize,
+    readings: &[u16],
+    words: &[u16],
+) -> Result<Plate, Refusal> {
+    let corrected = diilvak::correct(width, height, readings, words).map_err(refusal)?;
+    Plate::new(width, height, corrected.into_levels())
+}
+
+pub fn filter(unfiltered: &Plate, chosen: Setting) -> Result<Plate, Refusal> {
+    let filtered = diilvak::filter(&plate(unfiltered), setting(chosen)?);
+    Ok(unfiltered.with(filtered.into_levels()))
+}
+
+pub fn trace(traced: &Plate, chosen: Setting, at: usize) -> Result<Trace, Refusal> {
+    let shown = diilvak::trace(&plate(traced), setting(chosen)?, at).map_err(refusal)?;
+    Ok(Trace { direction: shown.direction.bit(), level: shown.level, path: shown.path })
+}

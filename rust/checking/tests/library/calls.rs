@@ -1,0 +1,123 @@
+//! Single calls with noise in all lent buffers, held to the refusal table.
+use checking::engine::{self, numbers};
+use checking::lent::Lent;
+use checking::listing::judge_shown;
+use checking::random::Random;
+use checking::table::{self, Lengths};
+use checking::{queue, Plate, Refusal, Setting, Trace};
+use diilvak::raw;
+
+/// The number of a verdict, 0 where it is accepted.
+pub fn number(verdict: Result<(), Refusal>) -> usize {
+    verdict.err().map_or(0, |refusal| refusal.number)
+}
+
+/// One raw filter with noise in all lent buffers, held to the refusal table: what it leaves, and what
+/// it writes. Returns the refusal number.
+pub fn filter_call(
+    random: &mut Random,
+    (width, height): (usize, usize),
+    setting: Setting,
+    lengths: Lengths,
+) -> usize {
+    let mut plate = Lent::new(lengths.plate, || random.draw() as i16);
+    let mut result = Lent::new(lengths.result, || random.draw() as i16);
+    let mut work = Lent::new(lengths.work, || random.draw() as u16);
+    let found =
+        raw::filter(width, height, plate.lend(), numbers(setting), result.lend(), work.lend());
+    let call = format!("filter {width} × {height} {setting:?} {lengths:?}");
+    assert_eq!(found, number(table::filter(width, height, setting, lengths)), "{call}");
+    assert!(plate.untouched(), "{call}: the plate changed");
+    if found == 0 {
+        assert!(result.guards_untouched() && work.guards_untouched(), "{call}: beyond a buffer");
+        let plate = Plate::new(width, height, plate.lend().to_vec()).unwrap();
+        assert_eq!(result.lend(), queue::filter(&plate, setting).levels(), "{call}");
+    } else {
+        assert!(result.untouched() && work.untouched(), "{call}: a refusal changed a buffer");
+    }
+    found
+}
+
+/// The same of a trace.
+pub fn trace_call(
+    random: &mut Random,
+    (width, height): (usize, usize),
+    setting: Setting,
+    at: usize,
+    lengths: Lengths,
+) -> usize {
+    let mut plate = Lent::new(lengths.plate, || random.draw() as i16);
+    let mut path = Lent::new(lengths.result, || random.draw() as usize);
+    let mut work = Lent::new(lengths.work, || random.draw() as u16);
+    let mut direction = Lent::new(1, || random.draw() as usize);
+    let mut level = Lent::new(1, || random.draw() as i16);
+    let found = raw::trace(
+        width,
+        height,
+        plate.lend(),
+        numbers(setting),
+        at,
+        path.lend(),
+        work.lend(),
+        &mut direction.lend()[0],
+        &mut level.lend()[0],
+    );
+    let call = format!("trace {width} × {height} {setting:?} at {at} {lengths:?}");
+    assert_eq!(found, number(table::trace(width, height, setting, at, lengths)), "{call}");
+    assert!(plate.untouched(), "{call}: the plate changed");
+    if found == 0 {
+        assert!(path.guards_untouched() && work.guards_untouched(), "{call}: beyond a buffer");
+        assert!(
+            direction.guards_untouched() && level.guards_untouched(),
+            "{call}: beyond a number"
+        );
+        let plate = Plate::new(width, height, plate.lend().to_vec()).unwrap();
+        let trace = Trace {
+            direction: direction.lend()[0],
+            level: level.lend()[0],
+            path: path.lend().to_vec(),
+        };
+        let filtered = queue::filter(&plate, setting);
+        let again = engine::trace(&filtered, setting, at);
+        assert_eq!(judge_shown(&plate, setting, at, &trace, &filtered, &again), Ok(()), "{call}");
+    } else {
+        assert!(path.untouched() && work.untouched(), "{call}: a refusal changed a buffer");
+        assert!(direction.untouched() && level.untouched(), "{call}: a refusal changed a number");
+    }
+    found
+}
+
+/// One raw correction with noise in the result, held to the table and to the sum.
+pub fn correct_call(
+    random: &mut Random,
+    (width, height): (usize, usize),
+    readings: &[u16],
+    words: &[u16],
+    room: usize,
+) -> usize {
+    let mut result = Lent::new(room, || random.draw() as i16);
+    let mut place = Lent::new(1, || random.draw() as usize);
+    let (lent_readings, lent_words) = (readings.to_vec(), words.to_vec());
+    let found = raw::correct(
+        width,
+        height,
+        &lent_readings,
+        &lent_words,
+        result.lend(),
+        &mut place.lend()[0],
+    );
+    let call = format!("correct {width} × {height} {readings:?} {words:?}, room {room}");
+    let expected = table::correct(width, height, readings, words, room);
+    assert_eq!(found, number(expected), "{call}");
+    assert_eq!(place.lend()[0], expected.err().map_or(0, |refusal| refusal.place), "{call}");
+    assert!(lent_readings == readings && lent_words == words, "{call}: an input changed");
+    assert!(place.guards_untouched() && result.guards_untouched(), "{call}: beyond a buffer");
+    if found == 0 {
+        let sum = |(&reading, &word)| (i32::from(reading) + table::signed(word)) as i16;
+        let sums: Vec<i16> = readings.iter().zip(words).map(sum).collect();
+        assert_eq!(result.lend(), sums, "{call}");
+    } else {
+        assert!(result.untouched(), "{call}: a refusal changed the result");
+    }
+    found
+}

@@ -1,0 +1,6 @@
+//! The library against the methods that share no code with it.
+mod buffers;
+mod calls;
+mod plates;
+mod refusals;
+mod steps;

@@ -1,0 +1,164 @@
+//! Calls with any numbers and buffers: which refusal comes, and what it leaves.
+use crate::calls::{correct_call, filter_call, number, trace_call};
+use checking::cases::rounds;
+use checking::engine::{self, numbers};
+use checking::plate::{bad_size, OPENING};
+use checking::random::Random;
+use checking::table::{self, Lengths};
+use checking::{Plate, Refusal, Setting};
+use diilvak::raw;
+
+/// The refusals among the plates of section 7.
+#[test]
+fn worked_refusals() {
+    let set = Setting::new;
+    let pixel = Plate::new(1, 1, vec![-7]).unwrap();
+    let no_path = Err(Refusal { number: 12, place: 0 });
+    assert_eq!(engine::trace(&pixel, set(2, 1, 15, OPENING), 0), no_path);
+    for (word, expected) in [(61_440, 0), (4095, 0), (61_439, 10), (4096, 10), (32_768, 10)] {
+        let found = engine::correct(1, 1, &[0], &[word]);
+        assert_eq!(number(found.map(|_| ())), expected, "word {word}");
+    }
+    assert_eq!(number(engine::setting(set(9, 8, 1, 0)).map(|_| ())), 0);
+    assert_eq!(number(engine::setting(set(8, 8, 1, 0)).map(|_| ())), 3);
+}
+
+/// A size: mostly a small one, else one at or past the limits.
+fn any_size(random: &mut Random) -> (usize, usize) {
+    const SIDES: [usize; 8] = [0, 1, 257, 1024, 1025, 65_536, 1 << 32, usize::MAX];
+    match random.below(6) {
+        // With both sides at 257 or 1024 the product is too large.
+        0 => (random.pick(&SIDES), random.pick(&SIDES)),
+        1 => (random.within(1, 5), random.pick(&[0, 1025, usize::MAX])),
+        _ => (random.within(1, 5), random.within(1, 5)),
+    }
+}
+
+fn any_setting(random: &mut Random) -> Setting {
+    let mut draw = |right: [usize; 2], wrong: &[usize]| match random.below(8) {
+        0 => random.pick(wrong),
+        _ => random.within(right[0], right[1]),
+    };
+    let length = draw([1, 7], &[0, 9, 1024, 1025, usize::MAX]);
+    let gaps = draw([0, length.clamp(1, 9) - 1], &[8, 9, length, usize::MAX]);
+    Setting::new(length, gaps, draw([1, 15], &[0, 16, usize::MAX]), draw([0, 1], &[2, usize::MAX]))
+}
+
+/// The right length, or now and then another near it.
+fn any_length(random: &mut Random, right: usize) -> usize {
+    let right = right.min(4000);
+    match random.below(12) {
+        0 => 0,
+        1 => right.saturating_sub(1),
+        2 => right + 1,
+        _ => right,
+    }
+}
+
+/// Calls with several faults at once: the first number that applies is returned, and nothing changes.
+#[test]
+fn refusals_follow_the_table() {
+    let mut random = Random(15);
+    let mut filters = [0; 13];
+    let mut traces = [0; 13];
+    let mut corrections = [0; 13];
+    for _ in 0..rounds(40_000, 1_000_000) {
+        let size = any_size(&mut random);
+        let pixels = if bad_size(size.0, size.1) { 5 } else { size.0 * size.1 };
+        let setting = any_setting(&mut random);
+        assert_eq!(
+            raw::check_setting(numbers(setting)),
+            number(table::setting(setting)),
+            "{setting:?}"
+        );
+        // Calls of full plates that are not refused belong to other tests.
+        let mut work = any_length(&mut random, 4 * (setting.gaps.min(8) + 1) * pixels);
+        if pixels > 400 {
+            work = work.min(3000);
+        }
+        let lengths = Lengths {
+            plate: any_length(&mut random, pixels),
+            result: any_length(&mut random, pixels),
+            work,
+        };
+        filters[filter_call(&mut random, size, setting, lengths)] += 1;
+        let lengths = Lengths { result: any_length(&mut random, setting.length), ..lengths };
+        let past = random.pick(&[pixels, pixels + 1, usize::MAX]);
+        let at = if random.below(8) == 0 { past } else { random.below(pixels) };
+        traces[trace_call(&mut random, size, setting, at, lengths)] += 1;
+
+        let one_in_ten = |random: &mut Random| random.below(10) == 0;
+        let readings: Vec<u16> = (0..any_length(&mut random, pixels))
+            .map(|_| match one_in_ten(&mut random) {
+                true => random.pick(&[0, 4095, 4095, 4096, 65_535]),
+                false => random.below(4096) as u16,
+            })
+            .collect();
+        let words: Vec<u16> = (0..any_length(&mut random, pixels))
+            .map(|_| match one_in_ten(&mut random) {
+                true => random.pick(&[4095, 4096, 32_767, 32_768, 61_439, 61_440]),
+                false => (random.below(8192) as i32 - 4096) as u16,
+            })
+            .collect();
+        let room = any_length(&mut random, pixels);
+        corrections[correct_call(&mut random, size, &readings, &words, room)] += 1;
+    }
+    // Done, and every number that the call has, came up.
+    let came_up = |counts: [usize; 13]| -> Vec<usize> {
+        (0..13).filter(|&number| counts[number] > 0).collect()
+    };
+    assert_eq!(came_up(filters), [0, 1, 2, 3, 4, 5, 6, 7, 8]);
+    assert_eq!(came_up(traces), [0, 1, 2, 3, 4, 5, 6, 7, 8, 11, 12]);
+    assert_eq!(came_up(corrections), [0, 1, 6, 7, 9, 10]);
+}
+
+/// A bad reading late on the plate wins over a bad correction early on it, and the first place of
+/// either is reported.
+#[test]
+fn places_of_bad_readings_and_corrections() {
+    let mut random = Random(16);
+    let (mut readings, mut words) = (vec![4095; 12], vec![61_440; 12]);
+    let mut refused = |readings: &[u16], words: &[u16]| {
+        correct_call(&mut random, (4, 3), readings, words, 12);
+        engine::correct(4, 3, readings, words).map(|_| ()).err()
+    };
+    assert_eq!(refused(&readings, &words), None);
+    words[7] = 32_768;
+    words[2] = 4096;
+    assert_eq!(refused(&readings, &words), Some(Refusal { number: 10, place: 2 }));
+    readings[11] = 4096;
+    readings[9] = 65_535;
+    assert_eq!(refused(&readings, &words), Some(Refusal { number: 9, place: 9 }));
+}
+
+/// The package takes exactly the sizes and settings that the table lets pass.
+#[test]
+fn plates_and_settings_follow_the_table() {
+    let mut random = Random(17);
+    let (mut plates, mut settings) = ([0; 7], [0; 6]);
+    for _ in 0..10_000 {
+        let (width, height) = any_size(&mut random);
+        let right = if bad_size(width, height) { 5 } else { width * height };
+        let levels = any_length(&mut random, right);
+        let found = diilvak::Plate::new(width, height, vec![0; levels]);
+        let expected = match bad_size(width, height) {
+            true => 1,
+            false if levels != right => 6,
+            false => 0,
+        };
+        assert_eq!(found.err().map_or(0, |refusal| refusal.number()), expected);
+        plates[expected] += 1;
+
+        let setting = any_setting(&mut random);
+        let found = number(engine::setting(setting).map(|_| ()));
+        // A wrong set or mode cannot come as far as the setting, so it is found first.
+        let lone = |setting: Setting| number(table::setting(setting));
+        let set = lone(Setting { length: 1, gaps: 0, mode: 0, ..setting });
+        let mode = lone(Setting { length: 1, gaps: 0, directions: 1, ..setting });
+        let expected = [set, mode, lone(setting)].into_iter().find(|&number| number > 0);
+        assert_eq!(found, expected.unwrap_or(0), "{setting:?}");
+        settings[found] += 1;
+    }
+    assert!([0, 1, 6].iter().all(|&number| plates[number] > 0), "{plates:?}");
+    assert!([0, 2, 3, 4, 5].iter().all(|&number| settings[number] > 0), "{settings:?}");
+}

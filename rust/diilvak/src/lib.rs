@@ -1,0 +1,41 @@
+//! Exact path openings and closings of grey plates, and the path through a pixel.
+//!
+//! A crack on a photographed wall is long, thin and seldom straight. A path opening keeps, at every
+//! pixel, only the brightness that lies on some long path through it; a closing does the same for dark
+//! cracks. The work is done by a library that is proved, for every input, to give what
+//! `include/diilvak.h` says; this package is the safe way to it from Rust.
+//!
+//! ```
+//! use diilvak::{correct, filter, trace, Directions, Mode, Refusal, Setting, Trace};
+//!
+//! fn crack(readings: &[u16], words: &[u16], at: usize) -> Result<Trace, Refusal> {
+//!     let plate = correct(32, 5, readings, words)?;
+//!     // Light cracks of 20 pixels with up to 3 gaps, in all four directions.
+//!     let setting = Setting::new(20, 3, Directions::ALL, Mode::Opening)?;
+//!     let opened = filter(&plate, setting);
+//!     let shown = trace(&plate, setting, at)?;
+//!     assert_eq!(shown.level, opened.levels()[at]);
+//!     Ok(shown)
+//! }
+//!
+//! let shown = crack(&[100; 160], &[65535; 160], 70)?;
+//! assert_eq!((shown.level, shown.path.len()), (99, 20));
+//! # Ok::<(), Refusal>(())
+//! ```
+//!
+//! The calls here lend result, path and work buffers of their own, so that only true refusals are
+//! left. A caller that keeps its buffers, or has numbers from elsewhere, takes [`raw`].
+#![warn(missing_docs)]
+mod calls;
+mod directions;
+pub mod limits;
+mod plate;
+pub mod raw;
+mod refusal;
+mod setting;
+
+pub use calls::{correct, filter, step, trace, version, Trace};
+pub use directions::{Direction, Directions};
+pub use plate::Plate;
+pub use refusal::Refusal;
+pub use setting::{Mode, Setting};

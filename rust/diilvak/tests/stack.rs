@@ -1,0 +1,57 @@
+//! Filter and trace in threads with no more stack than the header says they find room in. A call that
+//! takes more ends the whole run.
+use diilvak::limits::{FILTER_STACK, TRACE_STACK};
+use diilvak::{raw, Directions, Mode, Setting};
+
+/// What the thread itself takes: its start, its thread-local storage, and the frames of this test.
+const THREAD: usize = 16 * 1024;
+
+/// The largest square plate, with all gaps: paths of 300 pixels fit on the diagonals alone.
+const SIDE: usize = 256;
+const LENGTHS: [usize; 2] = [100, 300];
+
+fn setting(length: usize) -> raw::Setting {
+    Setting::new(length, 8, Directions::ALL, Mode::Opening).unwrap().into()
+}
+
+/// No two neighbours alike.
+fn plate() -> Vec<i16> {
+    (0..SIDE * SIDE).map(|p| (p * 40_503 % 65_521) as i16).collect()
+}
+
+fn work() -> Vec<u16> {
+    vec![0; raw::work_length(SIDE, SIDE, 8)]
+}
+
+/// What the call answers in a thread of this stack.
+fn within(stack: usize, call: impl FnOnce() -> usize + Send) -> usize {
+    std::thread::scope(|scope| {
+        let thread = std::thread::Builder::new().stack_size(stack + THREAD);
+        thread.spawn_scoped(scope, call).unwrap().join().unwrap()
+    })
+}
+
+#[test]
+fn filter() {
+    for length in LENGTHS {
+        let (plate, mut result, mut work) = (plate(), vec![0; SIDE * SIDE], work());
+        let call = || raw::filter(SIDE, SIDE, &plate, setting(length), &mut result, &mut work);
+        assert_eq!(within(FILTER_STACK, call), 0);
+        assert!(result.iter().zip(&plate).all(|(opened, own)| opened <= own));
+    }
+}
+
+#[test]
+fn trace() {
+    for length in LENGTHS {
+        let (plate, mut path, mut work) = (plate(), vec![0; length], work());
+        let (mut direction, mut level) = (0, 0);
+        let at = SIDE * SIDE / 2 + SIDE / 2;
+        let call = || {
+            let (d, l) = (&mut direction, &mut level);
+            raw::trace(SIDE, SIDE, &plate, setting(length), at, &mut path, &mut work, d, l)
+        };
+        assert_eq!(within(TRACE_STACK, call), 0);
+        assert!(path.contains(&at));
+    }
+}
