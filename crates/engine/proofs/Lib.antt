@@ -1,6 +1,4 @@
 pub mod RaiseLaws
-pub mod SpanLaws
 pub mod SweepLaws
 pub mod FinishLaws
 pub mod FilteredLaws
-pub mod VerdictLaws

@@ -1,6 +1,6 @@
 -- What holds of a call once every check has passed, and what is made of the gathered levels in the end. These definitions serve contracts inside
 -- the engine only: no public contract cites them.
-use Prim.Native.Nat.{ℕ, _+_, _-_, _*_, _≤_, _<_, min, max}
+use Prim.Native.Nat.{ℕ, _-_, _*_, _≤_, _<_, min, max}
 use mathlib.Core.Path.{_≡_}
 use mathlib.Core.Bool.{cond}
 use mathlib.Core.List.{List}
@@ -11,24 +11,15 @@ use Rattle.plate.specs.Levels.{level}
 use Rattle.plate.specs.Directions.{member, chosen}
 use Rattle.plate.specs.Paths.{next}
 use Rattle.plate.specs.Opening.{levelAt}
+use Rattle.plate.specs.Calls.{Passed}
 use Rattle.plate.specs.declared.setting.Setting.{Setting}
 use Rattle.frames.specs.Keys.{keyBy, levelBy}
 use Rattle.theory.specs.Walks.{back}
 use Rattle.theory.specs.BestWalks.{best, keyAt, across}
 
 -- sizes, setting and the lengths of plate, result and work that pass every check
-pub record Accepted (W H : ℕ) (s : Setting) (plate result work : ℕ) : Type 0 where
-  pub wide : 1 ≤ W
-  pub narrow : W ≤ 1024
-  pub high : 1 ≤ H
-  pub low : H ≤ 1024
-  pub few-pixels : W * H ≤ 65536
-  pub long : 1 ≤ s .length
-  pub short : s .length ≤ 1024
-  pub few-gaps : s .gaps ≤ 8
-  pub plate-size : plate ≡ W * H
-  pub result-size : result ≡ W * H
-  pub work-size : 4 * (s .gaps + 1) * (W * H) ≤ work
+abbrev pub Accepted : ℕ → ℕ → Setting → ℕ → ℕ → ℕ → Type 0
+Accepted W H s plate result work = Passed W H s plate (W * H) result work
 
 -- the best path through a pixel in the direction with this bit, but for the pixel's own key
 abbrev pub bestIn : ℕ → ℕ → Setting → List ℤ → ℕ → ℕ → ℕ

@@ -19,10 +19,9 @@ mod sweep;
 
 use crate::sweep::sweep;
 use plate::Answer;
-use plate::Made;
+use plate::Fills;
+use plate::Lent;
 use plate::Setting;
-use plate::refusal;
-pub use sweep::span_of;
 
 // Fills result with the filtered plate, or refuses (1 to 8) before the first store: then both lent
 // buffers are as they were. The work buffer has at least 4 * (gaps + 1) * width * height numbers, and
@@ -39,36 +38,17 @@ pub fn filter(
     ensures { λ r. ⌜ now (result .exit) ≡ resultAfter r (filtered setting width height (now (plate .entry))) (now (result .entry)) ⌝ }
     ensures { λ r. ⌜ workAfter r (now (work .entry)) (now (work .exit)) ⌝ }
 {
-    if plate::bad_size(width, height) {
-        return Answer::Refused {
-            number: refusal::SIZE,
-            place: 0,
-        };
-    }
-    let made = setting.checked();
-    if let Made::Refused { number, place } = made {
+    let lent = Lent {
+        input: plate.len(),
+        fills: Fills::Result,
+        filled: result.len(),
+        work: work.len(),
+    };
+    let answer = plate::judge(width, height, setting, lent);
+    if let Answer::Refused { number, place } = answer {
         return Answer::Refused {
             number: number,
             place: place,
-        };
-    }
-    let pixels = width * height;
-    if plate.len() != pixels {
-        return Answer::Refused {
-            number: refusal::INPUT,
-            place: 0,
-        };
-    }
-    if result.len() != pixels {
-        return Answer::Refused {
-            number: refusal::RESULT,
-            place: 0,
-        };
-    }
-    if work.len() < 4 * (setting.gaps + 1) * pixels {
-        return Answer::Refused {
-            number: refusal::WORK,
-            place: 0,
         };
     }
     sweep(width, height, plate, setting, result, work);

@@ -1,29 +1,14 @@
 // All chosen directions, one after the other.
 ghost use mathlib.Core.Path.{_≡_};
 ghost use mathlib.Core.Bool.{true};
-ghost use Prim.Native.Nat.{_+_, _-_, _*_, _^_, _≤_, _<_};
+ghost use Prim.Native.Nat.{_*_, _^_, _<_};
 ghost use lib.ListN.{length};
-ghost use Rattle.plate.specs.Paths.{span};
 ghost use Rattle.plate.specs.Opening.{filtered};
 ghost use Rattle.directions.specs.Gathering.{Raised};
 ghost use Rattle.engine.specs.Finishing.{Accepted, Complete, Gathered, bestIfChosen, bestOfAll};
 use crate::finish::blank;
 use crate::finish::finish;
 use plate::Setting;
-
-// The length of the longest paths in the direction at this index of the step table.
-pub fn span_of(width: usize, height: usize, index: usize) -> usize
-    requires { ⌜ (1 ≤ width) × (width ≤ 1024) × (1 ≤ height) × (height ≤ 1024) × (index < 4) ⌝ }
-    ensures { λ r. ⌜ (r ≡ span width height (2 ^ index)) × (r ≤ 2047) ⌝ }
-{
-    if index == 0 {
-        return height;
-    }
-    if index == 1 {
-        return width;
-    }
-    width + height - 1
-}
 
 // The direction at this index, if it is chosen and its paths are long enough; else there is no path.
 fn open_if_chosen(
@@ -43,8 +28,7 @@ fn open_if_chosen(
     if setting.directions / bit % 2 != 1 {
         return;
     }
-    let longest = span_of(width, height, index);
-    if longest < setting.length {
+    if plate::span_of(width, height, index) < setting.length {
         return;
     }
     directions::open_direction(result, work, plate, width, height, setting, index);

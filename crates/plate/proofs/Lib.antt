@@ -2,7 +2,9 @@ pub mod StepTable
 pub mod Keys
 pub mod NumberedSteps
 pub mod Sizes
+pub mod Spans
 pub mod Verdicts
+pub mod Calls
 pub mod WalkerSteps
 pub mod Within
 pub mod CorrectedLevels

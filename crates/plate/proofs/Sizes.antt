@@ -1,20 +1,14 @@
--- What an accepted size says: both sides are 1 to 1,024, and there are at most 65,536 pixels.
+-- A good size is one that refusal 1 does not forbid: both sides are 1 to 1,024, and there are at most 65,536 pixels.
 use Prim.Native.Nat.{ℕ, _*_, _≤_}
 use mathlib.Core.Path.{_≡_}
 use mathlib.Core.Bool.{false, _||_}
 use lib.Dec.{ltb, eqb}
-use borrow.Author.Tests.{ltb-false, eqb-false}
+use borrow.Author.Tests.{ltb-false, eqb-false, le-ltb, ne-eqb}
 use native.Mathlib.Omega.{arith}
 use Rattle.basics.proofs.Tests.{or-false-left, or-false-right}
 use Rattle.plate.specs.Limits.{maxSide, maxPixels}
 use Rattle.plate.specs.Refusals.{badSize}
-
-pub record GoodSize (W H : ℕ) : Type 0 where
-  pub wide : 1 ≤ W
-  pub narrow : W ≤ 1024
-  pub high : 1 ≤ H
-  pub low : H ≤ 1024
-  pub few : W * H ≤ 65536
+use Rattle.plate.specs.Sizes.{GoodSize}
 
 pub good-size : (W H : ℕ) → badSize W H ≡ false → GoodSize W H
 unfolding badSize
@@ -36,3 +30,14 @@ good-size W H e =
       low = ltb-false 1024 H (or-false-right (a || b || c) d abcd);
       few = ltb-false 65536 (W * H) (or-false-right (a || b || c || d) f e);
     }
+
+pub allowed-size : {W H : ℕ} → GoodSize W H → badSize W H ≡ false
+unfolding badSize
+allowed-size {W} {H} g =
+    simp (
+      ne-eqb W 0 (λ e. omega (arith, g .wide, e)),
+      le-ltb maxSide W (g .narrow),
+      ne-eqb H 0 (λ e. omega (arith, g .high, e)),
+      le-ltb maxSide H (g .low),
+      le-ltb maxPixels (W * H) (g .few),
+    )

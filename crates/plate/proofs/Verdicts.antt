@@ -6,12 +6,7 @@ use mathlib.Core.Logic.{⊎-elim}
 use native.Mathlib.Omega.{arith}
 use Prim.Native.Nat.{ℕ}
 use Rattle.basics.proofs.Tests.{true-or-false}
-use Rattle.plate.specs.Refusals.{Verdict, Verdict.accepted, Verdict.refused, Check, judged}
-
--- none of the checks refuses
-abbrev pub Clear : List Check → Type 0
-Clear [] = Unit
-Clear (c ∷ cs) = (c .refuses ≡ false) × Clear cs
+use Rattle.plate.specs.Refusals.{Verdict, Verdict.accepted, Verdict.refused, Check, judged, Clear}
 
 pub clear-accepted : {A : Type 0} (cs : List Check) (a : A) → Clear cs → judged cs a ≡ accepted a
 unfolding judged
@@ -44,13 +39,23 @@ refused-first {A} a b (c ∷ cs) ds n p e =
     (λ t. let f : judged cs a ≡ refused n p = rw t at e in rw t (refused-first a b cs ds n p f))
     (true-or-false (c .refuses))
 
--- and where they pass the next one does
+-- where they pass the others decide
+pub passed-first : {A : Type 0} (a : A) (cs ds : List Check) → Clear cs → judged (cs ++ ds) a ≡ judged ds a
+unfolding judged
+passed-first a [] ds h = refl
+passed-first a (c ∷ cs) ds h = rw (h .0) (passed-first a cs ds (h .1))
+
+-- the next one, if it refuses
 pub refused-next : {A : Type 0} (a : A) (cs : List Check) (c : Check) (ds : List Check) → Clear cs → c .refuses ≡ true → refused (c .number) (c .place) ≡ judged (cs ++ (c ∷ ds)) a
 unfolding judged
 refused-next a [] c ds h t = rw t
 refused-next a (b ∷ cs) c ds h t = rw (h .0) (refused-next a cs c ds (h .1) t)
 
--- one check more that passes
-pub clear-more : (cs : List Check) (c : Check) → Clear cs → c .refuses ≡ false → Clear (cs ++ (c ∷ []))
-clear-more [] c h p = (p, tt)
-clear-more (b ∷ cs) c h p = (h .0, clear-more cs c (h .1) p)
+-- none of either refuses
+pub clear-both : (cs ds : List Check) → Clear cs → Clear ds → Clear (cs ++ ds)
+clear-both [] ds h k = k
+clear-both (c ∷ cs) ds h k = (h .0, clear-both cs ds (h .1) k)
+
+pub clear-first : (cs ds : List Check) → Clear (cs ++ ds) → Clear cs
+clear-first [] ds h = tt
+clear-first (c ∷ cs) ds h = (h .0, clear-first cs ds (h .1))

@@ -1,16 +1,19 @@
 -- The answer enums, case by case, in document 01's numbers and values.
-use Prim.Native.Nat.{ℕ}
+use Prim.Native.Nat.{ℕ, _*_}
 use mathlib.Core.Path.{_≡_}
 use mathlib.Core.Bool.{cond}
 use mathlib.Core.List.{List}
 use lib.IntN.{ℤ}
 use Rattle.plate.specs.Paths.{Reached, Reached.at, Reached.leaves, numberedStep}
-use Rattle.plate.specs.Refusals.{Verdict, Verdict.accepted, Verdict.refused, badSize}
+use Rattle.plate.specs.Refusals.{Verdict, Verdict.accepted, Verdict.refused, judged, badSize, filterChecks}
 use Rattle.plate.specs.declared.setting.Setting.{Setting}
 use Rattle.plate.specs.declared.setting.Made.{Made}
 use Rattle.plate.specs.declared.setting.Made.the-variants.{Valid, Refused as Unmade}
 use Rattle.plate.specs.declared.answer.Answer.{Answer}
 use Rattle.plate.specs.declared.answer.Answer.the-variants.{Done, Refused}
+use Rattle.plate.specs.declared.call.Fills.{Fills}
+use Rattle.plate.specs.declared.call.Fills.the-variants.{Result, Path as Places}
+use Rattle.plate.specs.declared.call.Lent.{Lent}
 use Rattle.plate.specs.declared.answer.Traced.{Traced}
 use Rattle.plate.specs.declared.answer.Traced.the-variants.{Path, Refused as Untraced}
 use Rattle.plate.specs.declared.walker.Walker.{Walker}
@@ -26,6 +29,16 @@ made (Unmade number place) = refused number place
 abbrev pub answered : Answer → Verdict Unit
 answered Done = accepted tt
 answered (Refused number place) = refused number place
+
+-- the length that check 7 asks for: a result has a number for each pixel, a path has L places
+abbrev pub wantedFor : ℕ → ℕ → Fills → ℕ
+wantedFor pixels L Result = pixels
+wantedFor pixels L Places = L
+
+-- checks 1 to 8 of a call, by the lengths of what it is lent
+unfoldable pub callVerdict : ℕ → ℕ → Setting → Lent → Verdict Unit
+callVerdict W H s lent =
+    judged (filterChecks W H s (lent .input) (wantedFor (W * H) (s .length) (lent .fills)) (lent .filled) (lent .work)) tt
 
 -- what the lent result then holds: the new levels, or after a refusal what it held before
 abbrev pub resultAfter : Answer → List ℤ → List ℤ → List ℤ

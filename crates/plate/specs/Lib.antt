@@ -3,6 +3,9 @@ pub mod Levels
 pub mod Directions
 pub mod Paths
 pub mod Opening
+pub mod RefusalNumbers
 pub mod Refusals
+pub mod Sizes
 pub mod Answers
+pub mod Calls
 pub mod Within

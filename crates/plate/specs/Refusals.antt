@@ -1,6 +1,7 @@
 -- Document 01, section 5: the refusal table. Each row is a check, and each call runs its checks in the table's order.
 use Prim.Native.Nat.{ℕ, _+_, _*_}
-use mathlib.Core.Bool.{Bool, cond, not, _||_}
+use mathlib.Core.Path.{_≡_}
+use mathlib.Core.Bool.{Bool, false, cond, not, _||_}
 use mathlib.Core.List.{List, [], _∷_, _++_}
 use lib.Dec.{ltb, leb, eqb}
 use lib.ListN.{length}
@@ -8,6 +9,7 @@ use lib.IntN.{ℤ}
 use lib.Signed.{ltZ}
 use Rattle.basics.specs.Lists.{firstOf}
 use Rattle.plate.specs.Limits.{maxSide, maxPixels, maxReading, minCorrection, maxCorrection, maxLength, maxGaps, maxDirections, maxMode}
+use Rattle.plate.specs.RefusalNumbers.{refusalSize, refusalLength, refusalGaps, refusalDirections, refusalMode, refusalInput, refusalResult, refusalWork, refusalReading, refusalCorrection, refusalPlace, refusalNoPath}
 use Rattle.plate.specs.Levels.{signed}
 use Rattle.plate.specs.Paths.{crossed}
 use Rattle.plate.specs.Opening.{levelAt, filtered}
@@ -32,6 +34,11 @@ unfoldable pub judged : {A : Type 0} → List Check → A → Verdict A
 judged [] a = accepted a
 judged (c ∷ cs) a = cond (c .refuses) (refused (c .number) (c .place)) (judged cs a)
 
+-- none of the checks refuses
+abbrev pub Clear : List Check → Type 0
+Clear [] = Unit
+Clear (c ∷ cs) = (c .refuses ≡ false) × Clear cs
+
 -- ---- the rows
 
 -- W or H is 0 or above 1,024, or W × H above 65,536
@@ -39,7 +46,7 @@ unfoldable pub badSize : ℕ → ℕ → Bool
 badSize W H = eqb W 0 || ltb maxSide W || eqb H 0 || ltb maxSide H || ltb maxPixels (W * H)
 
 abbrev pub sizeCheck : ℕ → ℕ → Check
-sizeCheck W H = row 1 (badSize W H) 0
+sizeCheck W H = row refusalSize (badSize W H) 0
 
 -- L is 0 or above 1,024
 unfoldable pub badLength : ℕ → Bool
@@ -59,46 +66,46 @@ badMode mode = ltb maxMode mode
 
 -- an input buffer hasn't exactly W × H numbers
 abbrev pub inputCheck : ℕ → ℕ → Check
-inputCheck pixels room = row 6 (not (eqb room pixels)) 0
+inputCheck pixels room = row refusalInput (not (eqb room pixels)) 0
 
 -- result not exactly W × H numbers, or path buffer not exactly L
 abbrev pub resultCheck : ℕ → ℕ → Check
-resultCheck wanted room = row 7 (not (eqb room wanted)) 0
+resultCheck wanted room = row refusalResult (not (eqb room wanted)) 0
 
 -- work under 4 × (k + 1) × W × H numbers
 abbrev pub workCheck : ℕ → ℕ → ℕ → Check
-workCheck k pixels room = row 8 (ltb room (4 * (k + 1) * pixels)) 0
+workCheck k pixels room = row refusalWork (ltb room (4 * (k + 1) * pixels)) 0
 
 -- a reading above 4,095, with the first such place
 unfoldable pub badReading : ℕ → Bool
 badReading reading = ltb maxReading reading
 
 abbrev pub readingsCheck : List ℕ → Check
-readingsCheck readings = row 9 (ltb (firstOf badReading readings) (length readings)) (firstOf badReading readings)
+readingsCheck readings = row refusalReading (ltb (firstOf badReading readings) (length readings)) (firstOf badReading readings)
 
 -- a correction out of bounds, with the first such place
 unfoldable pub badCorrection : ℕ → Bool
 badCorrection word = ltZ (signed word) minCorrection || ltZ maxCorrection (signed word)
 
 abbrev pub correctionsCheck : List ℕ → Check
-correctionsCheck words = row 10 (ltb (firstOf badCorrection words) (length words)) (firstOf badCorrection words)
+correctionsCheck words = row refusalCorrection (ltb (firstOf badCorrection words) (length words)) (firstOf badCorrection words)
 
 -- trace place not below W × H
 abbrev pub placeCheck : ℕ → ℕ → Check
-placeCheck pixels x = row 11 (leb pixels x) 0
+placeCheck pixels x = row refusalPlace (leb pixels x) 0
 
 -- no path of length L through the pixel
 abbrev pub pathCheck : Bool → Check
-pathCheck crossed = row 12 (not crossed) 0
+pathCheck crossed = row refusalNoPath (not crossed) 0
 
 -- ---- the calls
 
 abbrev pub settingChecks : Setting → List Check
 settingChecks s =
-    row 2 (badLength (s .length)) 0
-    ∷ row 3 (badGaps (s .gaps) (s .length)) 0
-    ∷ row 4 (badDirections (s .directions)) 0
-    ∷ row 5 (badMode (s .mode)) 0
+    row refusalLength (badLength (s .length)) 0
+    ∷ row refusalGaps (badGaps (s .gaps) (s .length)) 0
+    ∷ row refusalDirections (badDirections (s .directions)) 0
+    ∷ row refusalMode (badMode (s .mode)) 0
     ∷ []
 
 -- making a setting: 2 to 5
@@ -118,7 +125,7 @@ correctionVerdict W H readings words room =
     ∷ [])
     tt
 
--- filters: 1 to 8, with the lengths of plate, result and work
+-- filters: 1 to 8, with the lengths of plate, result and work, and how many numbers the result has to have
 abbrev pub filterChecks : ℕ → ℕ → Setting → ℕ → ℕ → ℕ → ℕ → List Check
 filterChecks W H s plate wanted room work =
     sizeCheck W H

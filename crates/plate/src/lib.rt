@@ -2,19 +2,24 @@
 //
 // specs/ holds document 01's definitions, in its order: limits, levels, directions, paths, opening and
 // closing, the refusal table. The functions here are the leaves: the step table and the walker, the
-// setting, the arithmetic of levels, and the correction of a plate of readings. Each answers on every
-// input; none that is public has a `requires`.
+// setting, the arithmetic of levels, the checks that calls have in common, and the correction of a plate of
+// readings. Each answers on every input; none that is public has a `requires`.
 mod answer;
+mod call;
 mod correction;
 mod level;
 pub mod refusal;
 mod setting;
 mod size;
+mod span;
 mod steps;
 mod walker;
 
 pub use answer::Answer;
 pub use answer::Traced;
+pub use call::Fills;
+pub use call::Lent;
+pub use call::judge;
 pub use correction::MAX_CORRECTION;
 pub use correction::MAX_READING;
 pub use correction::MIN_CORRECTION;
@@ -28,6 +33,7 @@ pub use setting::Setting;
 pub use size::MAX_PIXELS;
 pub use size::MAX_SIDE;
 pub use size::bad_size;
+pub use span::span_of;
 pub use steps::DIRECTIONS;
 pub use steps::STEPS_EACH;
 pub use steps::column_change;

@@ -1,4 +1,6 @@
-// The numbers of the refusals, in the order of document 01's table (section 5).
+// The numbers of the refusals, in the order of document 01's table (section 5). The definitions have them in
+// specs/RefusalNumbers.antt, and the contracts hold these to those: a call that refused with another number
+// would not meet its own.
 pub const SIZE: usize = 1;
 
 pub const LENGTH: usize = 2;

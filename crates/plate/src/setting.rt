@@ -1,3 +1,5 @@
+// The setting of a filter or a trace, with its limits: made of four numbers, or refused (2 to 5). Its fields
+// are open, so every call that takes one checks it again.
 ghost use mathlib.Core.Path.{_≡_};
 ghost use Rattle.plate.specs.Refusals.{settingVerdict, badLength, badGaps, badDirections, badMode};
 ghost use Rattle.plate.specs.Answers.{made};

@@ -1,3 +1,5 @@
+// The sizes that a plate may have. The product is formed only after both sides are known to be small, so that
+// it cannot wrap.
 ghost use mathlib.Core.Path.{_≡_};
 ghost use Rattle.plate.specs.Refusals.{badSize};
 

@@ -1,3 +1,5 @@
+// The step table and how it is read: by a direction's index, a step's number and which of both changes is
+// meant. Past the table nothing changes.
 ghost use mathlib.Core.Path.{_≡_};
 ghost use Prim.Native.Nat.{_<_};
 ghost use Rattle.plate.specs.Directions.{indexOf, stepAt, changeOf};

@@ -13,8 +13,8 @@ use Rattle.basics.specs.Lists.{firstOf}
 use Rattle.basics.proofs.Tests.{true-or-false}
 use Rattle.basics.proofs.Lists.{none-passes, zipWith-length, zipWith-at}
 use Rattle.plate.specs.Levels.{lowest, corrected, correctedPlate}
-use Rattle.plate.specs.Refusals.{Verdict, Verdict.accepted, Check, badReading, badCorrection, sizeCheck, inputCheck, resultCheck, readingsCheck, correctionsCheck, correctionVerdict, settingVerdict}
-use Rattle.plate.proofs.Verdicts.{Clear, accepted-clear}
+use Rattle.plate.specs.Refusals.{Verdict, Verdict.accepted, Check, Clear, badReading, badCorrection, sizeCheck, inputCheck, resultCheck, readingsCheck, correctionsCheck, correctionVerdict, settingVerdict}
+use Rattle.plate.proofs.Verdicts.{accepted-clear}
 use Rattle.plate.proofs.CorrectedLevels.{corrected-fits}
 use Rattle.theory.proofs.Opening.{levels-within}
 use Rattle.plate.specs.declared.setting.Setting.{Setting}

@@ -15,13 +15,13 @@ use Rattle.basics.proofs.Tests.{true-or-false, true-T, or-false-left}
 use Rattle.plate.specs.Limits.{maxGaps}
 use Rattle.plate.specs.Paths.{crossed, span}
 use Rattle.plate.specs.Opening.{levelAt, filtered}
-use Rattle.plate.specs.Refusals.{Verdict, Verdict.accepted, Verdict.refused, judged, badGaps, placeCheck, pathCheck, settingChecks, settingVerdict, filterVerdict, traceVerdict}
+use Rattle.plate.specs.Refusals.{Verdict, Verdict.accepted, Verdict.refused, judged, Clear, badGaps, placeCheck, pathCheck, settingChecks, settingVerdict, filterVerdict, traceVerdict}
 use Rattle.plate.specs.Answers.{answered, resultAfter}
 use Rattle.plate.specs.declared.answer.Answer.{Answer}
 use Rattle.plate.specs.declared.answer.Answer.the-variants.{Done, Refused}
 use Rattle.plate.specs.declared.setting.Setting.{Setting}
 use Rattle.plate.proofs.Sizes.{good-size}
-use Rattle.plate.proofs.Verdicts.{Clear, clear-accepted, accepted-clear}
+use Rattle.plate.proofs.Verdicts.{clear-accepted, accepted-clear}
 use Rattle.theory.proofs.Span.{crossed-spans}
 use Rattle.survey_text.specs.Survey.{Survey, traced}
 use Rattle.surveying.specs.Steps.{maxWork, Fitting, Ready}

@@ -15,10 +15,10 @@ use Rattle.basics.proofs.Order.{lt-le, mag-between}
 use Rattle.plate.specs.Directions.{chosen}
 use Rattle.plate.specs.Paths.{pathsIn, paths, through}
 use Rattle.plate.specs.Opening.{levelAt, below, admits, filtered}
-use Rattle.plate.specs.Refusals.{Verdict.accepted, traceChecks, traceVerdict}
+use Rattle.plate.specs.Refusals.{Verdict.accepted, Clear, traceChecks, traceVerdict}
 use Rattle.plate.specs.declared.setting.Setting.{Setting}
 use Rattle.plate.proofs.Keys.{mirror-ltZ}
-use Rattle.plate.proofs.Verdicts.{Clear, clear-accepted, accepted-clear}
+use Rattle.plate.proofs.Verdicts.{clear-accepted, accepted-clear}
 use Rattle.theory.specs.Trace.{short, better, Shows}
 use Rattle.theory.specs.Modes.{Levels, turned}
 use Rattle.theory.proofs.Listed.{through-mem, listed-on, paths-keep}

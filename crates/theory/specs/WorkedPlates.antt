@@ -1,26 +1,20 @@
--- Document 01, section 7: the worked plates marked P, as one table. proofs/WorkedPlates.antt shows that the definitions give these values.
+-- Document 01, section 7: the worked plates marked P, as one table, P2's refused trace in it. proofs/WorkedPlates.antt shows that the definitions give these values.
 use Prim.Native.Nat.{ℕ, _+_, _*_}
 use mathlib.Core.Bool.{Bool, true, false, _&&_}
 use mathlib.Core.List.{List, [], _∷_}
 use lib.Dec.{eqb}
 use lib.IntN.{ℤ, pos, negsuc}
 use Rattle.plate.specs.Opening.{filtered}
-use Rattle.plate.specs.Refusals.{Verdict, traceVerdict}
+use Rattle.plate.specs.Refusals.{Verdict, Verdict.accepted, Verdict.refused, traceVerdict}
 use Rattle.plate.specs.declared.setting.Setting.{Setting}
 
--- a plate of W columns, filtered by a setting
-pub record Worked : Type 0 where
-  pub setting : Setting
-  pub W : ℕ
-  pub H : ℕ
-  pub plate : List ℤ
-  pub result : List ℤ
+-- a plate of W columns and H rows with what its filter gives by a setting; or a place of it at which the trace is refused, and the number
+pub data Worked : Type 0 where
+  filters : Setting → (W H : ℕ) → List ℤ → List ℤ → Worked
+  refuses : Setting → (W H : ℕ) → List ℤ → ℕ → ℕ → Worked
 
 abbrev setting : ℕ → ℕ → ℕ → ℕ → Setting
 setting mode directions L k = record { length = L; gaps = k; directions = directions; mode = mode }
-
-abbrev worked : Setting → ℕ → ℕ → List ℤ → List ℤ → Worked
-worked s W H f g = record { setting = s; W = W; H = H; plate = f; result = g }
 
 abbrev opening : ℕ
 opening = 0
@@ -64,17 +58,18 @@ one-pixel = pos 3 ∷ []
 
 unfoldable pub workedPlates : List Worked
 workedPlates =
-    worked (setting opening all-four 1 0) 1 1 (negsuc 6 ∷ []) (negsuc 6 ∷ [])  -- P1
-    ∷ worked (setting opening all-four 2 1) 1 1 one-pixel (low ∷ [])  -- P2
-    ∷ worked (setting opening east 4 1) 4 1 Q (pos 8 ∷ pos 5 ∷ pos 8 ∷ pos 8 ∷ [])  -- P3
-    ∷ worked (setting opening east 4 0) 4 1 Q (pos 5 ∷ pos 5 ∷ pos 5 ∷ pos 5 ∷ [])  -- P4
-    ∷ worked (setting closing east 4 1) 4 1 Q (pos 9 ∷ pos 9 ∷ pos 12 ∷ pos 9 ∷ [])  -- P5
-    ∷ worked (setting opening north 2 0) 4 1 Q (low ∷ low ∷ low ∷ low ∷ [])  -- P6
-    ∷ worked (setting closing north 2 0) 4 1 Q (high ∷ high ∷ high ∷ high ∷ [])  -- P6
-    ∷ worked (setting opening north-east 2 0) 4 1 Q (pos 5 ∷ pos 5 ∷ pos 8 ∷ pos 8 ∷ [])  -- P7
-    ∷ worked (setting opening north-east 2 0) 2 2 X (pos 1 ∷ pos 9 ∷ pos 9 ∷ pos 1 ∷ [])  -- P8
-    ∷ worked (setting opening south-east 2 0) 2 2 X (pos 1 ∷ pos 1 ∷ pos 1 ∷ pos 1 ∷ [])  -- P9
-    ∷ worked (setting closing all-four 1 0) 1 1 (low ∷ []) (low ∷ [])  -- P10
+    filters (setting opening all-four 1 0) 1 1 (negsuc 6 ∷ []) (negsuc 6 ∷ [])  -- P1
+    ∷ filters (setting opening all-four 2 1) 1 1 one-pixel (low ∷ [])  -- P2
+    ∷ refuses (setting opening all-four 2 1) 1 1 one-pixel 0 12  -- P2: its trace
+    ∷ filters (setting opening east 4 1) 4 1 Q (pos 8 ∷ pos 5 ∷ pos 8 ∷ pos 8 ∷ [])  -- P3
+    ∷ filters (setting opening east 4 0) 4 1 Q (pos 5 ∷ pos 5 ∷ pos 5 ∷ pos 5 ∷ [])  -- P4
+    ∷ filters (setting closing east 4 1) 4 1 Q (pos 9 ∷ pos 9 ∷ pos 12 ∷ pos 9 ∷ [])  -- P5
+    ∷ filters (setting opening north 2 0) 4 1 Q (low ∷ low ∷ low ∷ low ∷ [])  -- P6
+    ∷ filters (setting closing north 2 0) 4 1 Q (high ∷ high ∷ high ∷ high ∷ [])  -- P6
+    ∷ filters (setting opening north-east 2 0) 4 1 Q (pos 5 ∷ pos 5 ∷ pos 8 ∷ pos 8 ∷ [])  -- P7
+    ∷ filters (setting opening north-east 2 0) 2 2 X (pos 1 ∷ pos 9 ∷ pos 9 ∷ pos 1 ∷ [])  -- P8
+    ∷ filters (setting opening south-east 2 0) 2 2 X (pos 1 ∷ pos 1 ∷ pos 1 ∷ pos 1 ∷ [])  -- P9
+    ∷ filters (setting closing all-four 1 0) 1 1 (low ∷ []) (low ∷ [])  -- P10
     ∷ []
 
 unfoldable pub sameLevel : ℤ → ℤ → Bool
@@ -90,11 +85,17 @@ same [] (y ∷ ys) = false
 same (x ∷ xs) [] = false
 same (x ∷ xs) (y ∷ ys) = sameLevel x y && same xs ys
 
--- do the definitions give these results?
+-- is a call refused with this number, and the place 0?
+unfoldable pub refusedWith : ℕ → Verdict ℤ → Bool
+refusedWith number (accepted level) = false
+refusedWith number (refused n place) = eqb n number && eqb place 0
+
+-- do the definitions give this? A trace is lent a path buffer and a work buffer of the right lengths.
+unfoldable pub holds : Worked → Bool
+holds (filters s W H f g) = same (filtered s W H f) g
+holds (refuses s W H f x number) = refusedWith number (traceVerdict W H s f x (s .length) (4 * (s .gaps + 1) * (W * H)))
+
+-- and all of the table?
 unfoldable pub allHold : List Worked → Bool
 allHold [] = true
-allHold (w ∷ ws) = same (filtered (w .setting) (w .W) (w .H) (w .plate)) (w .result) && allHold ws
-
--- P2: its trace is refused with 12 (with a path buffer and a work buffer of the right lengths)
-unfoldable pub tracedP2 : Verdict ℤ
-tracedP2 = traceVerdict 1 1 (setting opening all-four 2 1) one-pixel 0 2 (4 * (1 + 1) * 1)
+allHold (w ∷ ws) = holds w && allHold ws

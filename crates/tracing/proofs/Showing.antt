@@ -1,26 +1,25 @@
 -- The best path that was found is the filtered level's, and drawn it shows all of demand 3. The key found is the value of the decomposition: no term is
 -- above it, those of a direction that is not usable being 0, and it is one of them. Turned back, its level is the filtered one.
-use Prim.Native.Nat.{ℕ, suc, _+_, _-_, _*_, _^_, _≤_, _<_, min}
+use Prim.Native.Nat.{ℕ, suc, _-_, _*_, _^_, _≤_, _<_, min}
 use mathlib.Core.Path.{_≡_, refl, sym, ap, subst, _∙_}
 use mathlib.Core.Bool.{true, false}
-use mathlib.Core.List.{List, map, List·Memᴰ}
+use mathlib.Core.List.{List, [], _∷_, map, List·Memᴰ}
 use mathlib.Core.Logic.{⊎-elim}
 use native.Mathlib.Omega.{arith}
-use lib.Dec.{T, eqb, ltb, leb}
+use lib.Dec.{T}
 use lib.ListN.{length, getD}
 use lib.IntN.{ℤ}
-use borrow.Author.Tests.{eqb-true, eqb-false, ltb-false, leb-false, not-false}
+use borrow.Author.Tests.{leb-false}
 use Rattle.basics.proofs.Numbers.{le-or-lt}
-use Rattle.basics.proofs.Tests.{or-false-left, or-false-right}
-use Rattle.plate.specs.Limits.{maxLength, maxGaps}
 use Rattle.plate.specs.Levels.{level}
 use Rattle.plate.specs.Directions.{chosen}
-use Rattle.plate.specs.Paths.{next, span}
+use Rattle.plate.specs.Paths.{next, crossed, span}
 use Rattle.plate.specs.Opening.{levelAt, admits, filtered}
-use Rattle.plate.specs.Refusals.{Verdict.accepted, badLength, badGaps, traceChecks, traceVerdict}
+use Rattle.plate.specs.Refusals.{Verdict.accepted, Clear, placeCheck, pathCheck, filterChecks, traceChecks, traceVerdict}
 use Rattle.plate.specs.declared.setting.Setting.{Setting}
-use Rattle.plate.proofs.Sizes.{GoodSize, good-size}
-use Rattle.plate.proofs.Verdicts.{Clear, clear-accepted}
+use Rattle.plate.proofs.Verdicts.{clear-accepted, clear-first}
+use Rattle.plate.specs.Calls.{Passed}
+use Rattle.plate.proofs.Calls.{passed}
 use Rattle.theory.specs.Trace.{Shows}
 use Rattle.theory.proofs.Listed.{mem-through, walk-listed, walk-started, walk-stays}
 use Rattle.theory.proofs.Ranks.{bit-listed}
@@ -46,32 +45,19 @@ use Rattle.tracing.proofs.Rooms.{rank-below}
 -- ---- what the checks say
 
 module _ (W H : ℕ) (s : Setting) (plate x room work : ℕ) (clear : Clear (traceChecks W H s plate x room work)) where
-  size : GoodSize W H
-  size = good-size W H (clear .0)
-
-  good-length : badLength (s .length) ≡ false
-  good-length = clear .1 .0
+  eight : Passed W H s plate (s .length) room work
+  eight =
+      passed W H s plate (s .length) room work
+      (clear-first (filterChecks W H s plate (s .length) room work) (placeCheck (W * H) x ∷ pathCheck (crossed W H (s .directions) (s .length) x) ∷ []) clear)
 
   pub clear-long : 1 ≤ s .length
-  unfolding badLength
-  clear-long = omega (arith, eqb-false (s .length) 0 (or-false-left (eqb (s .length) 0) (ltb maxLength (s .length)) good-length))
-
-  pub clear-short : s .length ≤ 1024
-  unfolding badLength
-  clear-short = ltb-false maxLength (s .length) (or-false-right (eqb (s .length) 0) (ltb maxLength (s .length)) good-length)
-
-  clear-gaps : s .gaps ≤ 8
-  unfolding badGaps
-  clear-gaps = ltb-false maxGaps (s .gaps) (or-false-left (ltb maxGaps (s .gaps)) (leb (s .length) (s .gaps)) (clear .1 .1 .0))
+  clear-long = eight .long
 
   pub clear-plate : plate ≡ W * H
-  clear-plate = eqb-true plate (W * H) (not-false _ (clear .1 .1 .1 .1 .1 .0))
+  clear-plate = eight .plate-size
 
   pub clear-path : room ≡ s .length
-  clear-path = eqb-true room (s .length) (not-false _ (clear .1 .1 .1 .1 .1 .1 .0))
-
-  clear-work : 4 * (s .gaps + 1) * (W * H) ≤ work
-  clear-work = ltb-false work (4 * (s .gaps + 1) * (W * H)) (clear .1 .1 .1 .1 .1 .1 .1 .0)
+  clear-path = eight .result-size
 
   pub clear-on : x < W * H
   clear-on = leb-false (W * H) x (clear .1 .1 .1 .1 .1 .1 .1 .1 .0)
@@ -80,17 +66,13 @@ module _ (W H : ℕ) (s : Setting) (plate x room work : ℕ) (clear : Clear (tra
   pub clear-accepted-sizes : Accepted W H s plate (W * H) work
   clear-accepted-sizes =
       record {
-        wide = size .wide;
-        narrow = size .narrow;
-        high = size .high;
-        low = size .low;
-        few-pixels = size .few;
-        long = clear-long;
-        short = clear-short;
-        few-gaps = clear-gaps;
-        plate-size = clear-plate;
+        size = eight .size;
+        long = eight .long;
+        short = eight .short;
+        few-gaps = eight .few-gaps;
+        plate-size = eight .plate-size;
         result-size = refl;
-        work-size = clear-work;
+        work-size = eight .work-size;
       }
 
 -- ---- the key found is the value

@@ -3,6 +3,7 @@ ghost use mathlib.Core.Path.{_≡_};
 ghost use mathlib.Core.Bool.{true};
 ghost use Prim.Native.Nat.{_+_, _-_, _*_, _^_, _≤_, _<_, min};
 ghost use lib.ListN.{length};
+ghost use Rattle.plate.specs.Sizes.{GoodSize};
 ghost use Rattle.tracing.specs.Scans.{Sound, keyOf};
 ghost use Rattle.engine.specs.Finishing.{Accepted};
 ghost use Rattle.tracing.specs.Usable.{usable, FirstUsable};
@@ -158,14 +159,14 @@ fn find_at(
     ensures { λ r. ⌜ FoundAt width height setting (now (plate .entry)) x index found r ⌝ }
     ensures { λ _. ⌜ Levels (now (plate .entry)) ⌝ }
 {
-    let longest = engine::span_of(width, height, index);
+    let longest = plate::span_of(width, height, index);
     let scan = scan_of(width, height, setting, index, longest);
     find_in(work, plate, scan, x, found)
 }
 
 // A path in a usable direction, at the lowest key, where each counts.
 fn lowest(width: usize, height: usize, setting: Setting, index: usize, x: usize) -> Found
-    requires { ⌜ (1 ≤ width) × (width ≤ 1024) × (1 ≤ height) × (height ≤ 1024) × (1 ≤ setting .length) ⌝ }
+    requires { ⌜ (GoodSize width height) × (1 ≤ setting .length) ⌝ }
     requires { ⌜ (x < width * height) × (index < 4) × (usable width height setting (2 ^ index) ≡ true) ⌝ }
     ensures { λ r. ⌜ (r .index ≡ index) × (r .key ≡ 0) × (r .before ≡ min (rank width height (2 ^ index) x) (setting .length - 1)) × (r .gaps ≡ 0) ⌝ }
 {
@@ -173,7 +174,7 @@ fn lowest(width: usize, height: usize, setting: Setting, index: usize, x: usize)
         width: width,
         height: height,
         index: index,
-        longest: engine::span_of(width, height, index),
+        longest: plate::span_of(width, height, index),
         backwards: true,
     };
     Found {

@@ -25,7 +25,9 @@ mod usable;
 
 use crate::shown::show;
 use crate::usable::first_usable;
-use plate::Made;
+use plate::Answer;
+use plate::Fills;
+use plate::Lent;
 use plate::Setting;
 use plate::Traced;
 use plate::refusal;
@@ -45,39 +47,20 @@ pub fn trace(
     ensures { λ r. ⌜ tracedLevel r ≡ traceVerdict width height setting (now (plate .entry)) at (length (now (path .entry))) (length (now (work .entry))) ⌝ }
     ensures { λ r. ⌜ traceAfter r (Shows setting width height (now (plate .entry)) at) (now (path .entry)) (now (path .exit)) (now (work .entry)) (now (work .exit)) ⌝ }
 {
-    if plate::bad_size(width, height) {
-        return Traced::Refused {
-            number: refusal::SIZE,
-            place: 0,
-        };
-    }
-    let made = setting.checked();
-    if let Made::Refused { number, place } = made {
+    let lent = Lent {
+        input: plate.len(),
+        fills: Fills::Path,
+        filled: path.len(),
+        work: work.len(),
+    };
+    let answer = plate::judge(width, height, setting, lent);
+    if let Answer::Refused { number, place } = answer {
         return Traced::Refused {
             number: number,
             place: place,
         };
     }
-    let pixels = width * height;
-    if plate.len() != pixels {
-        return Traced::Refused {
-            number: refusal::INPUT,
-            place: 0,
-        };
-    }
-    if path.len() != setting.length {
-        return Traced::Refused {
-            number: refusal::RESULT,
-            place: 0,
-        };
-    }
-    if work.len() < 4 * (setting.gaps + 1) * pixels {
-        return Traced::Refused {
-            number: refusal::WORK,
-            place: 0,
-        };
-    }
-    if at >= pixels {
+    if at >= plate.len() {
         return Traced::Refused {
             number: refusal::PLACE,
             place: 0,

@@ -4,9 +4,8 @@ ghost use Prim.Native.Nat.{_<_};
 ghost use lib.ListN.{length};
 ghost use Rattle.plate.specs.Levels.{level};
 ghost use Rattle.plate.specs.Opening.{levelAt, filtered};
-ghost use Rattle.plate.specs.Refusals.{Verdict.accepted, traceChecks};
+ghost use Rattle.plate.specs.Refusals.{Verdict.accepted, Clear, traceChecks};
 ghost use Rattle.plate.specs.Answers.{tracedLevel, traceAfter};
-ghost use Rattle.plate.proofs.Verdicts.{Clear};
 ghost use Rattle.theory.specs.Trace.{Shows};
 ghost use Rattle.tracing.specs.Usable.{FirstUsable};
 ghost use Rattle.theory.specs.Modes.{turned};
@@ -46,7 +45,7 @@ pub(crate) fn show(
     ensures { λ r. ⌜ traceAfter r (Shows setting width height (now (plate .entry)) x) (now (path .entry)) (now (path .exit)) (now (work .entry)) (now (work .exit)) ⌝ }
 {
     let found = find(work, plate, width, height, setting, first, x);
-    let longest = engine::span_of(width, height, found.index);
+    let longest = plate::span_of(width, height, found.index);
     let scan = scan_of(width, height, setting, found.index, longest);
     draw(path, work, plate, scan, found, x);
     let direction = bit_of(found.index);

@@ -6,7 +6,8 @@ use mathlib.Core.Path.{_≡_, sym, _∙_}
 use mathlib.Core.Bool.{false}
 use borrow.Author.Tests.{lt-ltb, le-ltb}
 use Rattle.plate.specs.Refusals.{badSize}
-use Rattle.plate.proofs.Sizes.{GoodSize, good-size}
+use Rattle.plate.specs.Sizes.{GoodSize}
+use Rattle.plate.proofs.Sizes.{good-size}
 use Rattle.diilvak.specs.Numbers.{workLength}
 use borrow.Author.Needs.{needs}
 use Rattle.diilvak.proofs.diilvak_work_length.Statement.{statement}

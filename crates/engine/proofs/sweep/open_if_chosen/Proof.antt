@@ -2,6 +2,8 @@
 use native.Mathlib.Omega.{arith}
 use borrow.Author.Needs.{needs}
 use lib.Pow.{pow-pos}
+use mathlib.Core.Path.{_∙_}
+use Rattle.plate.proofs.Spans.{span-good}
 use Rattle.engine.proofs.SweepLaws.{chosen-best, member-chosen, not-chosen, too-short}
 use Rattle.engine.proofs.sweep.open_if_chosen.Statement.{statement}
 use Rattle.engine.proofs.sweep.open_if_chosen.Tie as tie
@@ -18,15 +20,15 @@ span-of-requires c κs = search needs
 returns-2 : tie.Need-returns-2
 returns-2 c =
     let s = c .before .before .before .before .before .before in
-    too-short (s .args .width) (s .args .height) (s .args .setting) (s .args .plate .now) (s .args .index) (s .pre .1 .0) (rw (← c .before .before .span-of .ensures .0) (c .if2 .taken)) _
+    too-short (s .args .width) (s .args .height) (s .args .setting) (s .args .plate .now) (s .args .index) (s .pre .1 .0) (rw (← c .before .before .span-of .ensures ∙ span-good (s .pre .0 .size) (s .args .index) (s .pre .1 .0)) (c .if2 .taken)) _
 
 open-direction-requires : tie.Need-open-direction-requires
 open-direction-requires c κs =
     let s = c .before .before .before .before .before .before .before .before in
     let p = s .pre .0 in (
-      (p .wide, p .narrow, p .high, p .low, p .few-pixels, s .pre .1 .0, p .few-gaps),
+      (p .size .wide, p .size .narrow, p .size .high, p .size .low, p .size .few, s .pre .1 .0, p .few-gaps),
       (
-        (p .long, p .short, omega (arith, c .before .before .before .before .span-of .ensures .0, c .before .before .if2 .left)),
+        (p .long, p .short, omega (arith, c .before .before .before .before .span-of .ensures ∙ span-good (p .size) (s .args .index) (s .pre .1 .0), c .before .before .if2 .left)),
         (p .plate-size, p .result-size, p .work-size),
       ),
     )

@@ -25,7 +25,7 @@ lowest-requires c κs =
     let s = c .before in
     let a = s .args in
     let p = s .pre .0 in
-    ((p .wide, p .narrow, p .high, p .low, p .long), (s .pre .1 .0 .0, s .pre .1 .0 .1, s .pre .1 .1 .passes (s .pre .1 .0 .1)))
+    ((p .size, p .long), (s .pre .1 .0 .0, s .pre .1 .0 .1, s .pre .1 .1 .passes (s .pre .1 .0 .1)))
 
 find-at-requires : tie.Need-find-at-requires Inv-loop μ-loop
 find-at-requires c κs =
@@ -58,7 +58,7 @@ is-usable-requires : tie.Need-is-usable-requires Inv-loop μ-loop
 is-usable-requires c κs =
     let s = c .before .before .before .before .before .before .before .before in
     let a = s .args in
-    let p = s .pre .0 in (p .wide, p .narrow, p .high, p .low, c .loop-test .taken)
+    (s .pre .0 .size, c .loop-test .taken)
 
 find-at-requires-2 : tie.Need-find-at-requires-2 Inv-loop μ-loop
 find-at-requires-2 c κs =

@@ -2,6 +2,7 @@
 use mathlib.Core.Path.{sym, _∙_}
 use native.Mathlib.Omega.{arith}
 use borrow.Author.Needs.{needs}
+use Rattle.plate.proofs.Spans.{span-good, span-bound}
 use Rattle.tracing.proofs.Directions.{usable-long}
 use Rattle.tracing.proofs.Finding.{scan-pixels, scan-room, scan-found}
 use Rattle.tracing.proofs.find.find_at.Statement.{statement}
@@ -15,11 +16,13 @@ scan-of-requires c κs =
     let s = c .before .before in
     let a = s .args in
     let p = s .pre .0 in
-    let n = c .span-of .ensures in (
-      (p .wide, p .narrow, p .high, p .low, p .few-pixels),
+    let g = p .size in
+    let e = c .span-of .ensures in
+    let n = e ∙ span-good g (a .index) (s .pre .1 .1) in (
+      (g .wide, g .narrow, g .high, g .low, g .few),
       (
         (p .long, p .short, p .few-gaps, s .pre .1 .1),
-        (n .0, n .1, omega (arith, n .0, usable-long (a .width) (a .height) (a .setting) (a .index) (s .pre .1 .1) (s .pre .1 .2))),
+        (n, omega (arith, e, span-bound g (a .index) (s .pre .1 .1)), omega (arith, n, usable-long (a .width) (a .height) (a .setting) (a .index) (s .pre .1 .1) (s .pre .1 .2))),
       ),
     )
 

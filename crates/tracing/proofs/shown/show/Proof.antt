@@ -6,6 +6,7 @@ use lib.ListN.{length}
 use mir.Syntax.{w16}
 use mir.ValLaws.{toZ-ofZ}
 use Rattle.plate.specs.Refusals.{Verdict.accepted}
+use Rattle.plate.proofs.Spans.{span-good, span-bound}
 use Rattle.tracing.proofs.Directions.{usable-long}
 use Rattle.tracing.proofs.Finding.{scan-pixels, scan-room, scan-attained, scan-drawn}
 use Rattle.tracing.proofs.Showing.{clear-long, clear-plate, clear-path, clear-on, clear-accepted-sizes, level-found, path-shown}
@@ -19,11 +20,7 @@ find-requires c κs =
     (clear-accepted-sizes (a .width) (a .height) (a .setting) (length (a .plate .now)) (a .x) (length (a .path .now)) (length (a .work .now)) (s .pre .0), ((clear-on (a .width) (a .height) (a .setting) (length (a .plate .now)) (a .x) (length (a .path .now)) (length (a .work .now)) (s .pre .0), s .pre .1 .0), s .pre .1 .1))
 
 span-of-requires : tie.Need-span-of-requires
-span-of-requires c κs =
-    let s = c .before .before .before .before .before .before in
-    let a = s .args in
-    let p = clear-accepted-sizes (a .width) (a .height) (a .setting) (length (a .plate .now)) (a .x) (length (a .path .now)) (length (a .work .now)) (s .pre .0) in
-    (p .wide, p .narrow, p .high, p .low, c .before .before .find .ensures .0 .listed)
+span-of-requires c κs = search needs
 
 scan-of-requires : tie.Need-scan-of-requires
 scan-of-requires c κs =
@@ -31,11 +28,13 @@ scan-of-requires c κs =
     let a = s .args in
     let p = clear-accepted-sizes (a .width) (a .height) (a .setting) (length (a .plate .now)) (a .x) (length (a .path .now)) (length (a .work .now)) (s .pre .0) in
     let b = c .before .before .before .find .ensures .0 in
-    let n = c .span-of .ensures in (
-      (p .wide, p .narrow, p .high, p .low, p .few-pixels),
+    let g = p .size in
+    let e = c .span-of .ensures in
+    let n = e ∙ span-good g (c .before .before .before .find .result .index) (b .listed) in (
+      (g .wide, g .narrow, g .high, g .low, g .few),
       (
         (p .long, p .short, p .few-gaps, b .listed),
-        (n .0, n .1, omega (arith, n .0, usable-long (a .width) (a .height) (a .setting) (c .before .before .before .find .result .index) (b .listed) (b .is-usable))),
+        (n, omega (arith, e, span-bound g (c .before .before .before .find .result .index) (b .listed)), omega (arith, n, usable-long (a .width) (a .height) (a .setting) (c .before .before .before .find .result .index) (b .listed) (b .is-usable))),
       ),
     )
 

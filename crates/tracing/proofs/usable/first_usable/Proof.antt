@@ -2,6 +2,7 @@
 use Prim.Native.Nat.{_-_, _≤_}
 use mathlib.Core.Path.{sym, _∙_}
 use native.Mathlib.Omega.{arith}
+use borrow.Author.Needs.{needs}
 use Rattle.tracing.proofs.Directions.{NoneBefore, none-before, none-more}
 use Rattle.tracing.proofs.usable.first_usable.Statement.{statement}
 use Rattle.tracing.proofs.usable.first_usable.Tie as tie
@@ -16,7 +17,7 @@ loop-holds : tie.Need-loop-holds Inv-loop μ-loop
 loop-holds c = (omega arith, none-before _ _ _)
 
 is-usable-requires : tie.Need-is-usable-requires Inv-loop μ-loop
-is-usable-requires c κs = omega arith
+is-usable-requires c κs = search needs
 
 returns : tie.Need-returns Inv-loop μ-loop
 returns c =

@@ -15,7 +15,8 @@ use Rattle.plate.specs.Directions.{indexOf, stepAt}
 use Rattle.plate.specs.Refusals.{badSize}
 use Rattle.plate.specs.Within.{within}
 use Rattle.plate.specs.declared.walker.Walker.{Walker}
-use Rattle.plate.proofs.Sizes.{GoodSize, good-size}
+use Rattle.plate.specs.Sizes.{GoodSize}
+use Rattle.plate.proofs.Sizes.{good-size}
 use Rattle.plate.proofs.WalkerSteps.{size-leaves, place-leaves, no-direction-leaves, no-number-leaves, past-column-leaves, past-row-leaves, walker-moves}
 use Rattle.plate.proofs.walker.Walker.step.Statement.{statement}
 use Rattle.plate.proofs.walker.Walker.step.Tie as tie
