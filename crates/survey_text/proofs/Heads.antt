@@ -1,26 +1,25 @@
--- What the lines of the head say once they are accepted: the size is good and small, and how many lines were read.
-use Prim.Native.Nat.{ℕ, _+_, _*_, _≤_}
-use mathlib.Core.Path.{_≡_, ap, sym, subst}
-use mathlib.Core.Bool.{false}
-use mathlib.Core.List.{List, [], _∷_}
+-- Laws of a plate's size: how it is judged at a cursor, and that the size of an accepted text is good and small.
+use Prim.Native.Nat.{ℕ, _*_, _≤_, _<_}
+use mathlib.Core.Path.{_≡_, sym, subst}
+use mathlib.Core.Bool.{true, false}
+use mathlib.Core.List.{List, []}
 use native.Mathlib.Omega.{arith}
-use borrow.Author.Tests.{ltb-false}
+use borrow.Author.Tests.{ltb-false, lt-ltb, le-ltb}
 use lib.Dec.{ltb}
-use lib.ListN.{length}
 use Rattle.plate.specs.Refusals.{Verdict.accepted, row, badSize, judged, sizeCheck}
-use Rattle.plate.specs.declared.setting.Setting.{Setting}
 use Rattle.survey_text.specs.Bytes.{bytes}
 use Rattle.survey_text.specs.Format.{number, nothing}
-use Rattle.survey_text.specs.Reading.{maxBytes, maxPlate, PlateText, Rest, next, sizeLines, settingLines, plateLines, reading}
-use Rattle.survey_text.proofs.NextLine.{lineIn, next-line}
+use Rattle.survey_text.specs.Reading.{maxPlate, PlateText, Rest, next, opening, sizeJudged, sizeLines, settingLines, plateLines, reading}
+use Rattle.survey_text.specs.Cursors.{stands, Counted, Step}
+use Rattle.survey_text.specs.declared.cursor.Cursor.{Cursor}
 use Rattle.survey_text.proofs.Verdicts.{accepted-same, steps-accepted, check-passed, checks-passed}
 
 pub record Sized (W H : ℕ) : Type 0 where
   pub good : badSize W H ≡ false
   pub small : W * H ≤ maxPlate
 
-pub size-accepted : (l : Rest) (x : (ℕ × ℕ) × Rest) → accepted x ≡ sizeLines l → Sized (x .0 .0) (x .0 .1) × (x .1 .line ≡ l .line + 3)
-unfolding sizeLines
+size-accepted : (l : Rest) (x : (ℕ × ℕ) × Rest) → accepted x ≡ sizeLines l → Sized (x .0 .0) (x .0 .1)
+unfolding sizeLines sizeJudged
 size-accepted l x e =
     let a = steps-accepted (next (bytes "plate=1") nothing l) _ x e in
     let b = steps-accepted (next (bytes "width=") number (a .0 .1)) _ x (a .2) in
@@ -30,28 +29,28 @@ size-accepted l x e =
     let p = check-passed (sizeCheck W H) _ _ x (c .2) in
     let q = check-passed (row 14 (ltb maxPlate (W * H)) 0) [] _ x (p .1) in
     let r : x ≡ ((W, H), c .0 .1) = checks-passed [] _ x (q .1) in
-    let m : x .1 .line ≡ c .0 .1 .line = ap (λ (y : (ℕ × ℕ) × Rest). y .1 .line) r in (
-      rw r (record { good = p .0; small = ltb-false maxPlate (W * H) (q .0) }),
-      omega (arith, next-line _ _ _ _ (a .1), next-line _ _ _ _ (b .1), next-line _ _ _ _ (c .1)),
-    )
+    rw r (record { good = p .0; small = ltb-false maxPlate (W * H) (q .0) })
 
-pub setting-accepted : (l : Rest) (x : (Setting × ℕ) × Rest) → accepted x ≡ settingLines l → x .1 .line ≡ l .line + 5
-unfolding settingLines
-setting-accepted l x e =
-    let a = steps-accepted (next (bytes "length=") number l) _ x e in
-    let b = steps-accepted (next (bytes "gaps=") number (a .0 .1)) _ x (a .2) in
-    let c = steps-accepted (next (bytes "ways=") number (b .0 .1)) _ x (b .2) in
-    let d = steps-accepted (next (bytes "mode=") number (c .0 .1)) _ x (c .2) in
-    let f = steps-accepted (next (bytes "at=") number (d .0 .1)) _ x (d .2) in
-    let m : x .1 .line ≡ f .0 .1 .line = ap lineIn (f .2) in
-    omega (arith, next-line _ _ _ _ (a .1), next-line _ _ _ _ (b .1), next-line _ _ _ _ (c .1), next-line _ _ _ _ (d .1), next-line _ _ _ _ (f .1))
-
--- a text that is accepted has a good and small plate
 pub reading-sized : (text : List ℕ) (t : PlateText) → accepted t ≡ reading text → Sized (t .width) (t .height)
 unfolding reading
 reading-sized text t e =
-    let a = steps-accepted (judged (row 14 (ltb maxBytes (length text)) 0 ∷ []) (record { line = 1; bytes = text })) _ t e in
+    let a = steps-accepted (opening text) _ t e in
     let b = steps-accepted (sizeLines (a .0)) _ t (a .2) in
     let c = steps-accepted (settingLines (b .0 .1)) _ t (b .2) in
     let d = steps-accepted (plateLines (b .0 .0 .0) (b .0 .0 .1) (c .0 .1)) _ t (c .2) in
-    subst (λ (u : PlateText). Sized (u .width) (u .height)) (sym (accepted-same t _ (d .2))) (size-accepted (a .0) (b .0) (b .1) .0)
+    subst (λ (u : PlateText). Sized (u .width) (u .height)) (sym (accepted-same t _ (d .2))) (size-accepted (a .0) (b .0) (b .1))
+
+-- ---- the size is judged where the cursor stands
+
+module _ (text : List ℕ) (c : Cursor) (W H : ℕ) where
+  pub size-bad : c .refused ≤ 0 → badSize W H ≡ true → Step text c (sizeJudged W H) (0, 0) (record { from = c .from; line = 0; refused = 1 })
+  unfolding sizeJudged judged stands
+  size-bad h e = record { told = rw (le-ltb 0 (c .refused) h, e); counted = record { few = omega arith } }
+
+  pub size-large : c .refused ≤ 0 → badSize W H ≡ false → maxPlate < W * H → Step text c (sizeJudged W H) (0, 0) (record { from = c .from; line = 0; refused = 14 })
+  unfolding sizeJudged judged stands
+  size-large h e l = record { told = rw (le-ltb 0 (c .refused) h, e, lt-ltb maxPlate (W * H) l); counted = record { few = omega arith } }
+
+  pub size-good : Counted c → c .refused ≤ 0 → badSize W H ≡ false → W * H ≤ maxPlate → Step text c (sizeJudged W H) (W, H) c
+  unfolding sizeJudged judged stands
+  size-good n h e l = record { told = rw (le-ltb 0 (c .refused) h, e, le-ltb maxPlate (W * H) l); counted = n }

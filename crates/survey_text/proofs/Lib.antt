@@ -2,15 +2,10 @@ pub mod Digits
 pub mod Names
 pub mod Lines
 pub mod NextLine
+pub mod Steps
 pub mod Parts
 pub mod Verdicts
 pub mod Rows
 pub mod Heads
-pub mod Written
-pub mod Decimals
-pub mod SignedDecimals
-pub mod Parted
-pub mod OutLines
-pub mod Lengths
 pub mod Requests
 pub mod WorkedTexts

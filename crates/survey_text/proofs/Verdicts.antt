@@ -7,6 +7,10 @@ use mathlib.Core.Logic.{⊎-elim}
 use native.Mathlib.Omega.{arith}
 use Rattle.basics.proofs.Tests.{true-or-false}
 use Rattle.plate.specs.Refusals.{Verdict, Verdict.accepted, Verdict.refused, Check, judged}
+use Rattle.plate.specs.Answers.{answered, resultAfter}
+use Rattle.plate.specs.declared.answer.Answer.{Answer}
+use Rattle.plate.specs.declared.answer.Answer.the-variants.{Done, Refused}
+use lib.IntN.{ℤ}
 use Rattle.survey_text.specs.Reading.{_>>=_}
 
 pub accepted-same : {A : Type 0} (a b : A) → accepted a ≡ accepted b → a ≡ b
@@ -31,3 +35,8 @@ pub checks-passed : {A : Type 0} (cs : List Check) (a b : A) → accepted b ≡ 
 unfolding judged
 checks-passed [] a b e = cc
 checks-passed (c ∷ cs) a b e = checks-passed cs a b (check-passed c cs a b e .1)
+
+-- a call whose verdict is acceptance is done, and its result is the new one
+pub done-result : (r : Answer) (new old : List ℤ) → answered r ≡ accepted tt → resultAfter r new old ≡ new
+done-result Done new old e = refl
+done-result (Refused n p) new old e = absurd (let z : _≡_ {A = ℕ} 0 1 = cc in omega arith)

@@ -3,6 +3,6 @@ pub mod Format
 pub mod Reading
 pub mod Printing
 pub mod Survey
-pub mod Buffers
 pub mod Answers
+pub mod Cursors
 pub mod WorkedTexts

@@ -23,12 +23,12 @@ abbrev pub _>>=_ : {A B : Type 0} → Verdict A → (A → Verdict B) → Verdic
 accepted a >>= k = k a
 refused n p >>= k = refused n p
 
--- what a plate's text says
+-- what a plate's text says; `at` is the pixel to trace
 pub record PlateText : Type 0 where
   pub width : ℕ
   pub height : ℕ
   pub setting : Setting
-  pub place : ℕ
+  pub at : ℕ
   pub readings : List ℕ
   pub words : List ℕ
 
@@ -52,15 +52,23 @@ next name form l =
 unfoldable pub atEnd : Rest → Verdict Unit
 atEnd l = judged (row 13 (ltb 0 (length (l .bytes))) (l .line) ∷ []) tt
 
--- the lines up to `height=`, then refusals 1 and 14 on the size
+-- the whole text is still to be read, unless it is too long
+unfoldable pub opening : List ℕ → Verdict Rest
+opening text = judged (row 14 (ltb maxBytes (length text)) 0 ∷ []) (record { line = 1; bytes = text })
+
+-- refusals 1 and 14 on the size
+unfoldable pub sizeJudged : ℕ → ℕ → Rest → Verdict ((ℕ × ℕ) × Rest)
+sizeJudged W H l = judged (sizeCheck W H ∷ row 14 (ltb maxPlate (W * H)) 0 ∷ []) ((W, H), l)
+
+-- the lines up to `height=`, then the size is judged
 unfoldable pub sizeLines : Rest → Verdict ((ℕ × ℕ) × Rest)
 sizeLines l = do
   (_, l) ← next (bytes "plate=1") nothing l
   (W, l) ← next (bytes "width=") number l
   (H, l) ← next (bytes "height=") number l
-  judged (sizeCheck W H ∷ row 14 (ltb maxPlate (W * H)) 0 ∷ []) ((W, H), l)
+  sizeJudged W H l
 
--- the setting, and the traced place
+-- the setting, and the pixel to trace
 unfoldable pub settingLines : Rest → Verdict ((Setting × ℕ) × Rest)
 settingLines l = do
   (L, l) ← next (bytes "length=") number l
@@ -89,8 +97,8 @@ plateLines W H l = do
 -- a whole text
 unfoldable pub reading : List ℕ → Verdict PlateText
 reading text = do
-  l ← judged (row 14 (ltb maxBytes (length text)) 0 ∷ []) (record { line = 1; bytes = text })
+  l ← opening text
   ((W, H), l) ← sizeLines l
   ((setting, x), l) ← settingLines l
   (readings, words) ← plateLines W H l
-  accepted (record { width = W; height = H; setting = setting; place = x; readings = readings; words = words })
+  accepted (record { width = W; height = H; setting = setting; at = x; readings = readings; words = words })

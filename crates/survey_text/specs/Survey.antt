@@ -8,26 +8,29 @@ use Rattle.plate.specs.Levels.{correctedPlate}
 use Rattle.plate.specs.Opening.{filtered}
 use Rattle.plate.specs.Refusals.{Verdict, Verdict.accepted, Verdict.refused, correctionVerdict, settingVerdict, traceVerdict}
 use Rattle.plate.specs.declared.setting.Setting.{Setting}
-use Rattle.survey_text.specs.Reading.{_>>=_, reading}
+use Rattle.survey_text.specs.Reading.{_>>=_, PlateText, reading}
 use Rattle.survey_text.specs.Printing.{outText, traceText, refusalText}
 
--- what a text asks for: a plate of corrected levels is filtered by a setting and traced at a place
+-- what a text asks for: a plate of corrected levels is filtered by a setting and traced at a pixel
 pub record Survey : Type 0 where
   pub width : ℕ
   pub height : ℕ
   pub setting : Setting
-  pub place : ℕ
+  pub at : ℕ
   pub levels : List ℤ
 
--- the text is read, the readings are corrected (9, 10), and the setting is made (2 to 5)
-unfoldable pub requested : List ℕ → Verdict Survey
-requested text = do
-  t ← reading text
+-- what was read is corrected (9, 10), and its setting is made (2 to 5)
+unfoldable pub asked : PlateText → Verdict Survey
+asked t = do
   let W = t .width
   let H = t .height
   _ ← correctionVerdict W H (t .readings) (t .words) (W * H)
   s ← settingVerdict (t .setting)
-  accepted (record { width = W; height = H; setting = s; place = t .place; levels = correctedPlate (t .readings) (t .words) })
+  accepted (record { width = W; height = H; setting = s; at = t .at; levels = correctedPlate (t .readings) (t .words) })
+
+-- the text is read, and judged further
+unfoldable pub requested : List ℕ → Verdict Survey
+requested text = reading text >>= asked
 
 -- the filtered plate
 abbrev pub filteredPlate : Survey → List ℤ
@@ -37,7 +40,7 @@ filteredPlate v = filtered (v .setting) (v .width) (v .height) (v .levels)
 abbrev pub traced : Survey → Verdict ℤ
 traced v =
     let s = v .setting in
-    traceVerdict (v .width) (v .height) s (v .levels) (v .place) (s .length) (4 * (s .gaps + 1) * (v .width * v .height))
+    traceVerdict (v .width) (v .height) s (v .levels) (v .at) (s .length) (4 * (s .gaps + 1) * (v .width * v .height))
 
 -- "A refusal prints the lines `refused=` and `place=` and nothing else"
 abbrev pub printed : Verdict (List ℕ) → List ℕ

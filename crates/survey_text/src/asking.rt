@@ -1,11 +1,10 @@
 // What a text asks for: reading, then correction, then the setting. The filter and the trace come after.
 ghost use mathlib.Core.Path.{_≡_};
-ghost use Prim.Native.Nat.{_≤_};
+ghost use Prim.Native.Nat.{_*_, _≤_};
 ghost use lib.ListN.{length};
-ghost use Rattle.plate.specs.Refusals.{settingVerdict};
 ghost use Rattle.survey_text.specs.Reading.{maxPlate};
-ghost use Rattle.survey_text.specs.Survey.{requested};
-ghost use Rattle.survey_text.specs.Answers.{requestTold, checkedTold};
+ghost use Rattle.survey_text.specs.Survey.{asked, requested};
+ghost use Rattle.survey_text.specs.Answers.{withLists, requestTold, levelsAfter, judgedTold};
 use crate::reading::Header;
 use crate::reading::MAX_PLATE;
 use crate::reading::Reading;
@@ -13,11 +12,11 @@ use crate::reading::read;
 use plate::Answer;
 use plate::Made;
 
-// The head of an accepted text, with the corrected levels at the front of the lent buffer; or the
-// refusal of the first of the three that refuses.
-pub fn request(s: &[u8], levels: &mut [i16]) -> Reading
-    requires { ⌜ maxPlate ≤ length (now levels) ⌝ }
+// The head of an accepted text, with the corrected levels at the front of the lent array; or the
+// refusal of the first of the three that refuses, and the array is as it was.
+pub fn request(s: &[u8], levels: &mut [i16; MAX_PLATE]) -> Reading
     ensures { λ r. ⌜ requestTold (now (levels .exit)) r ≡ requested (now (s .entry)) ⌝ }
+    ensures { λ r. ⌜ now (levels .exit) ≡ levelsAfter (requested (now (s .entry))) (now (levels .entry)) ⌝ }
 {
     let mut readings = [0u16; MAX_PLATE];
     let mut words = [0u16; MAX_PLATE];
@@ -29,28 +28,42 @@ pub fn request(s: &[u8], levels: &mut [i16]) -> Reading
         },
         Reading::Plate(head) => {
             let n = head.width * head.height;
-            let done = plate::correct(
-                head.width,
-                head.height,
-                &readings[..n],
-                &words[..n],
-                &mut levels[..n],
-            );
-            match done {
-                Answer::Refused { number, place } => Reading::Refused {
-                    number: number,
-                    place: place,
-                },
-                Answer::Done => checked(head),
-            }
+            fill(head, &readings[..n], &words[..n], levels)
         }
     }
 }
 
-// The head, if its setting is within the limits.
-fn checked(head: Header) -> Reading
-    ensures { λ r. ⌜ r ≡ checkedTold head (settingVerdict (head .setting)) ⌝ }
+// Corrects into the front of levels what passed every check, and nothing else.
+fn fill(head: Header, readings: &[u16], words: &[u16], levels: &mut [i16]) -> Reading
+    requires { ⌜ head .width * head .height ≤ maxPlate ⌝ }
+    requires { ⌜ maxPlate ≤ length (now levels) ⌝ }
+    ensures { λ r. ⌜ requestTold (now (levels .exit)) r ≡ asked (withLists head (now (readings .entry)) (now (words .entry))) ⌝ }
+    ensures { λ r. ⌜ now (levels .exit) ≡ levelsAfter (asked (withLists head (now (readings .entry)) (now (words .entry)))) (now (levels .entry)) ⌝ }
 {
+    let verdict = judge(head, readings, words);
+    let Reading::Plate(_) = verdict else {
+        return verdict;
+    };
+    let n = head.width * head.height;
+    plate::correct(head.width, head.height, readings, words, &mut levels[..n]);
+    verdict
+}
+
+// The head, if its readings and words can be corrected and its setting is within the limits. The
+// correction is tried in an array that is thrown away, since 9 and 10 come before 2 to 5.
+fn judge(head: Header, readings: &[u16], words: &[u16]) -> Reading
+    requires { ⌜ head .width * head .height ≤ maxPlate ⌝ }
+    ensures { λ r. ⌜ r ≡ judgedTold head (asked (withLists head (now (readings .entry)) (now (words .entry)))) ⌝ }
+{
+    let n = head.width * head.height;
+    let mut tried = [0i16; MAX_PLATE];
+    let done = plate::correct(head.width, head.height, readings, words, &mut tried[..n]);
+    if let Answer::Refused { number, place } = done {
+        return Reading::Refused {
+            number: number,
+            place: place,
+        };
+    }
     let setting = head.setting;
     let made = setting.checked();
     match made {

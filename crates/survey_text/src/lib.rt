@@ -1,18 +1,15 @@
-// The survey program's text (document 01, section 6): reading a plate's text, and printing the answer.
+// The survey program's text (document 01, section 6), read: what a plate's text asks for, or its refusal.
 //
-// specs/ defines both on lists of bytes: the format and its lines, the reading with its order of
-// judgement, the printed lines, and the whole answer as one function of the text.
+// specs/ defines on lists of bytes the format and its lines, the reading with its order of judgement, the
+// lines that are printed (the crate surveying prints them), and the whole answer as one function of the
+// text.
 mod asking;
+mod cursor;
 mod line;
 mod number;
-mod printing;
 mod reading;
-mod writing;
 
 pub use asking::request;
-pub use printing::print_plate;
-pub use printing::print_refusal;
-pub use printing::print_trace;
 pub use reading::Header;
 pub use reading::MAX_BYTES;
 pub use reading::MAX_PLATE;

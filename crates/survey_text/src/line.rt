@@ -1,42 +1,32 @@
 // Lines: the next one is found, its name is compared, and its value is read.
 ghost use mathlib.Core.Path.{_≡_};
-ghost use Prim.Native.Nat.{_<_};
 ghost use lib.ListN.{length, drop};
 ghost use Rattle.basics.specs.Lists.{firstOf};
 ghost use Rattle.survey_text.specs.Bytes.{newline};
 ghost use Rattle.survey_text.specs.Format.{is, after, named, number, list, nothing};
 ghost use Rattle.survey_text.specs.Reading.{next};
-ghost use Rattle.survey_text.specs.Answers.{whether, valueRead, Inside, restFrom, numberTold, passedTold};
+ghost use Rattle.survey_text.specs.Answers.{whether, valueRead, Inside};
+ghost use Rattle.survey_text.specs.Cursors.{Counted, Step};
+use crate::cursor::Cursor;
 use crate::number::Number;
 use crate::number::list_in;
 use crate::number::number_in;
-
-// Where the reading stands: the place of the next line's first byte, and that line's number.
-pub struct Cursor {
-    pub at: usize,
-    pub line: usize,
-}
+use plate::refusal;
 
 // Where the value of a line stands: its first byte, and the newline behind it.
-pub enum Value {
+pub(crate) enum Value {
     Between { from: usize, end: usize },
     Bad,
 }
 
-// A line with a number.
-pub enum NumberLine {
-    Is { value: usize, next: Cursor },
-    Bad,
-}
-
-// A line whose value is known or is in a lent buffer.
-pub enum Passed {
-    Next(Cursor),
-    Bad,
+// The number of a line, and the cursor behind it.
+pub(crate) struct NumberLine {
+    pub(crate) value: usize,
+    pub(crate) next: Cursor,
 }
 
 // How many bytes stand before the first b.
-pub fn find(b: u8, s: &[u8]) -> usize
+pub(crate) fn find(b: u8, s: &[u8]) -> usize
     ensures { λ r. ⌜ r ≡ firstOf (is b) (now (s .entry)) ⌝ }
 {
     let mut i = 0;
@@ -69,7 +59,7 @@ fn begins(s: &[u8], name: &[u8]) -> bool
 // The value of the line at this place, if it has this name and a newline ends it.
 fn value_at(s: &[u8], name: &[u8], at: usize) -> Value
     ensures { λ r. ⌜ valueRead (now (s .entry)) r ≡ named (now (name .entry)) (drop at (now (s .entry))) ⌝ }
-    ensures { λ r. ⌜ Inside (length (now (s .entry))) r ⌝ }
+    ensures { λ r. ⌜ Inside at (length (now (s .entry))) r ⌝ }
 {
     if at >= s.len() {
         return Value::Bad;
@@ -88,59 +78,77 @@ fn value_at(s: &[u8], name: &[u8], at: usize) -> Value
 }
 
 // The line at the cursor: its name, then a number.
-pub fn number_line(s: &[u8], name: &[u8], c: Cursor) -> NumberLine
-    requires { ⌜ c .line < 65536 ⌝ }
-    ensures { λ r. ⌜ numberTold (now (s .entry)) (c .line) r ≡ next (now (name .entry)) number (restFrom (now (s .entry)) c) ⌝ }
+pub(crate) fn number_line(s: &[u8], name: &[u8], c: Cursor) -> NumberLine
+    requires { ⌜ Counted c ⌝ }
+    ensures { λ r. ⌜ Step (now (s .entry)) c (next (now (name .entry)) number) (r .value) (r .next) ⌝ }
 {
-    let found = value_at(s, name, c.at);
+    if c.refused > 0 {
+        return NumberLine { value: 0, next: c };
+    }
+    let found = value_at(s, name, c.from);
     let Value::Between { from, end } = found else {
-        return NumberLine::Bad;
+        return NumberLine {
+            value: 0,
+            next: c.refuse(refusal::LINE),
+        };
     };
     let got = number_in(&s[from..end]);
     let Number::Is(value) = got else {
-        return NumberLine::Bad;
+        return NumberLine {
+            value: 0,
+            next: c.refuse(refusal::LINE),
+        };
     };
-    NumberLine::Is {
+    NumberLine {
         value: value,
         next: Cursor {
-            at: end + 1,
+            from: end + 1,
             line: c.line + 1,
+            refused: 0,
         },
     }
 }
 
 // The line at the cursor: its name and nothing more.
-pub fn bare_line(s: &[u8], name: &[u8], c: Cursor) -> Passed
-    requires { ⌜ c .line < 65536 ⌝ }
-    ensures { λ r. ⌜ passedTold (now (s .entry)) (c .line) tt r ≡ next (now (name .entry)) nothing (restFrom (now (s .entry)) c) ⌝ }
+pub(crate) fn bare_line(s: &[u8], name: &[u8], c: Cursor) -> Cursor
+    requires { ⌜ Counted c ⌝ }
+    ensures { λ r. ⌜ Step (now (s .entry)) c (next (now (name .entry)) nothing) tt r ⌝ }
 {
-    let found = value_at(s, name, c.at);
+    if c.refused > 0 {
+        return c;
+    }
+    let found = value_at(s, name, c.from);
     let Value::Between { from, end } = found else {
-        return Passed::Bad;
+        return c.refuse(refusal::LINE);
     };
     if from < end {
-        return Passed::Bad;
+        return c.refuse(refusal::LINE);
     }
-    Passed::Next(Cursor {
-        at: end + 1,
+    Cursor {
+        from: end + 1,
         line: c.line + 1,
-    })
+        refused: 0,
+    }
 }
 
 // The line at the cursor: its name, then as many numbers as out has places for.
-pub fn list_line(s: &[u8], name: &[u8], c: Cursor, out: &mut [u16]) -> Passed
-    requires { ⌜ c .line < 65536 ⌝ }
-    ensures { λ r. ⌜ passedTold (now (s .entry)) (c .line) (now (out .exit)) r ≡ next (now (name .entry)) (list (length (now (out .entry)))) (restFrom (now (s .entry)) c) ⌝ }
+pub(crate) fn list_line(s: &[u8], name: &[u8], c: Cursor, out: &mut [u16]) -> Cursor
+    requires { ⌜ Counted c ⌝ }
+    ensures { λ r. ⌜ Step (now (s .entry)) c (next (now (name .entry)) (list (length (now (out .entry))))) (now (out .exit)) r ⌝ }
 {
-    let found = value_at(s, name, c.at);
+    if c.refused > 0 {
+        return c;
+    }
+    let found = value_at(s, name, c.from);
     let Value::Between { from, end } = found else {
-        return Passed::Bad;
+        return c.refuse(refusal::LINE);
     };
     if !list_in(&s[from..end], out) {
-        return Passed::Bad;
+        return c.refuse(refusal::LINE);
     }
-    Passed::Next(Cursor {
-        at: end + 1,
+    Cursor {
+        from: end + 1,
         line: c.line + 1,
-    })
+        refused: 0,
+    }
 }

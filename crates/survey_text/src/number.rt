@@ -12,7 +12,7 @@ const MAX_NUMBER: usize = 65535;
 
 const BASE: usize = 10;
 
-pub enum Number {
+pub(crate) enum Number {
     Is(usize),
     Bad,
 }
@@ -27,7 +27,7 @@ fn is_digit(b: u8) -> bool
 }
 
 // The number that these bytes are.
-pub fn number_in(s: &[u8]) -> Number
+pub(crate) fn number_in(s: &[u8]) -> Number
     ensures { λ r. ⌜ numberRead r ≡ number (now (s .entry)) ⌝ }
 {
     if s.len() < 1 {
@@ -52,7 +52,7 @@ pub fn number_in(s: &[u8]) -> Number
 }
 
 // Fills out with the numbers that these bytes list, if they are as many as it has places for.
-pub fn list_in(s: &[u8], out: &mut [u16]) -> bool
+pub(crate) fn list_in(s: &[u8], out: &mut [u16]) -> bool
     ensures { λ r. ⌜ whether r (now (out .exit)) ≡ list (length (now (out .entry))) (now (s .entry)) ⌝ }
 {
     let mut from = 0;

@@ -1,13 +1,13 @@
 // Reading a plate's text. The order of judgement is document 01's (section 6): the text's length, the
 // lines up to `height=`, refusals 1 and 14 on the size, then the other lines.
 ghost use mathlib.Core.Path.{_≡_};
-ghost use Prim.Native.Nat.{_+_, _*_, _≤_, _<_};
+ghost use mathlib.Core.List.{List};
+ghost use Prim.Native.Nat.{ℕ, _*_, _≤_};
 ghost use lib.ListN.{length};
-ghost use Rattle.survey_text.specs.Reading.{maxPlate, sizeLines, settingLines, rowLines, plateLines, reading};
-ghost use Rattle.survey_text.specs.Answers.{restFrom, sizeTold, settingTold, rowsTold, plateTold, readingTold};
-use crate::line::Cursor;
-use crate::line::NumberLine;
-use crate::line::Passed;
+ghost use Rattle.survey_text.specs.Reading.{maxPlate, opening, sizeJudged, sizeLines, settingLines, rowLines, atEnd, plateLines, reading};
+ghost use Rattle.survey_text.specs.Answers.{readingTold};
+ghost use Rattle.survey_text.specs.Cursors.{Counted, Step, Last, stands};
+use crate::cursor::Cursor;
 use crate::line::bare_line;
 use crate::line::list_line;
 use crate::line::number_line;
@@ -19,47 +19,26 @@ pub const MAX_BYTES: usize = 16384;
 
 pub const MAX_PLATE: usize = 512;
 
-// What the lines up to `height=` say.
-pub enum SizeLines {
-    Size {
-        width: usize,
-        height: usize,
-        next: Cursor,
-    },
-    Refused {
-        number: usize,
-        place: usize,
-    },
+// A plate's size; 0 by 0 where the cursor carries a refusal.
+pub(crate) struct SizeLines {
+    pub(crate) width: usize,
+    pub(crate) height: usize,
+    pub(crate) next: Cursor,
 }
 
-// The setting, and the traced place.
-pub enum SettingLines {
-    Given {
-        setting: Setting,
-        place: usize,
-        next: Cursor,
-    },
-    Bad(usize),
+// The setting, and the pixel to trace.
+pub(crate) struct SettingLines {
+    pub(crate) setting: Setting,
+    pub(crate) at: usize,
+    pub(crate) next: Cursor,
 }
 
-// The rows are in the lent buffer, or this line is bad.
-pub enum RowLines {
-    Next(Cursor),
-    Bad(usize),
-}
-
-// The readings and the words are in the lent buffers, or this line is bad.
-pub enum PlateLines {
-    Filled,
-    Bad(usize),
-}
-
-// What a plate's text says besides its readings and its words.
+// What a plate's text says besides its readings and its words; `at` is the pixel to trace.
 pub struct Header {
     pub width: usize,
     pub height: usize,
     pub setting: Setting,
-    pub place: usize,
+    pub at: usize,
 }
 
 pub enum Reading {
@@ -67,105 +46,96 @@ pub enum Reading {
     Refused { number: usize, place: usize },
 }
 
-fn size_lines(s: &[u8]) -> SizeLines
-    ensures { λ r. ⌜ sizeTold (now (s .entry)) r ≡ sizeLines (record { line = 1; bytes = now (s .entry) }) ⌝ }
+// The first line, unless the text is too long.
+fn open(s: &[u8]) -> Cursor
+    ensures { λ r. ⌜ Counted r ⌝ }
+    ensures { λ r. ⌜ stands (now (s .entry)) r ≡ opening (now (s .entry)) ⌝ }
 {
-    let first = bare_line(s, b"plate=1", Cursor { at: 0, line: 1 });
-    let Passed::Next(second) = first else {
-        return SizeLines::Refused {
-            number: refusal::LINE,
-            place: 1,
-        };
-    };
-    let got = number_line(s, b"width=", second);
-    let NumberLine::Is {
-        value: width,
-        next: third,
-    } = got
-    else {
-        return SizeLines::Refused {
-            number: refusal::LINE,
-            place: second.line,
-        };
-    };
-    let got = number_line(s, b"height=", third);
-    let NumberLine::Is {
-        value: height,
-        next,
-    } = got
-    else {
-        return SizeLines::Refused {
-            number: refusal::LINE,
-            place: third.line,
-        };
-    };
-    if plate::bad_size(width, height) {
-        return SizeLines::Refused {
-            number: refusal::SIZE,
-            place: 0,
+    if s.len() > MAX_BYTES {
+        return Cursor {
+            from: 0,
+            line: 0,
+            refused: refusal::TEXT,
         };
     }
-    if width * height > MAX_PLATE {
-        return SizeLines::Refused {
-            number: refusal::TEXT,
-            place: 0,
-        };
-    }
-    SizeLines::Size {
-        width: width,
-        height: height,
-        next: next,
+    Cursor {
+        from: 0,
+        line: 1,
+        refused: 0,
     }
 }
 
-fn setting_lines(s: &[u8], c: Cursor) -> SettingLines
-    requires { ⌜ c .line + 5 ≤ 65536 ⌝ }
-    ensures { λ r. ⌜ settingTold (now (s .entry)) r ≡ settingLines (restFrom (now (s .entry)) c) ⌝ }
+// Refusals 1 and 14 on a size that was read.
+fn judge_size(width: usize, height: usize, c: Cursor) -> SizeLines
+    requires { ⌜ Counted c ⌝ }
+    ensures { λ r. ⌜ r .width * r .height ≤ maxPlate ⌝ }
+    ensures { λ r. ⌜ ((text : List ℕ) → Step text c (sizeJudged width height) (r .width, r .height) (r .next)) ⌝ }
 {
-    let got = number_line(s, b"length=", c);
-    let NumberLine::Is {
-        value: length,
-        next: c2,
-    } = got
-    else {
-        return SettingLines::Bad(c.line);
-    };
-    let got = number_line(s, b"gaps=", c2);
-    let NumberLine::Is {
-        value: gaps,
-        next: c3,
-    } = got
-    else {
-        return SettingLines::Bad(c2.line);
-    };
-    let got = number_line(s, b"ways=", c3);
-    let NumberLine::Is {
-        value: ways,
-        next: c4,
-    } = got
-    else {
-        return SettingLines::Bad(c3.line);
-    };
-    let got = number_line(s, b"mode=", c4);
-    let NumberLine::Is {
-        value: mode,
-        next: c5,
-    } = got
-    else {
-        return SettingLines::Bad(c4.line);
-    };
-    let got = number_line(s, b"at=", c5);
-    let NumberLine::Is { value: place, next } = got else {
-        return SettingLines::Bad(c5.line);
-    };
-    SettingLines::Given {
+    if c.refused > 0 {
+        return SizeLines {
+            width: 0,
+            height: 0,
+            next: c,
+        };
+    }
+    if plate::bad_size(width, height) {
+        return SizeLines {
+            width: 0,
+            height: 0,
+            next: Cursor {
+                from: c.from,
+                line: 0,
+                refused: refusal::SIZE,
+            },
+        };
+    }
+    if width * height > MAX_PLATE {
+        return SizeLines {
+            width: 0,
+            height: 0,
+            next: Cursor {
+                from: c.from,
+                line: 0,
+                refused: refusal::TEXT,
+            },
+        };
+    }
+    SizeLines {
+        width: width,
+        height: height,
+        next: c,
+    }
+}
+
+fn size_lines(s: &[u8], c: Cursor) -> SizeLines
+    requires { ⌜ Counted c ⌝ }
+    ensures { λ r. ⌜ r .width * r .height ≤ maxPlate ⌝ }
+    ensures { λ r. ⌜ Step (now (s .entry)) c sizeLines (r .width, r .height) (r .next) ⌝ }
+{
+    let plate = bare_line(s, b"plate=1", c);
+    let width = number_line(s, b"width=", plate);
+    let height = number_line(s, b"height=", width.next);
+    judge_size(width.value, height.value, height.next)
+}
+
+fn setting_lines(s: &[u8], c: Cursor) -> SettingLines
+    requires { ⌜ Counted c ⌝ }
+    ensures { λ r. ⌜ Step (now (s .entry)) c settingLines (r .setting, r .at) (r .next) ⌝ }
+{
+    let length = number_line(s, b"length=", c);
+    let gaps = number_line(s, b"gaps=", length.next);
+    let ways = number_line(s, b"ways=", gaps.next);
+    let mode = number_line(s, b"mode=", ways.next);
+    let at = number_line(s, b"at=", mode.next);
+    let next = at.next;
+    SettingLines {
         setting: Setting {
-            length: length,
-            gaps: gaps,
-            directions: ways,
-            mode: mode,
+            length: length.value,
+            gaps: gaps.value,
+            directions: ways.value,
+            mode: mode.value,
         },
-        place: place,
+        at: at.value,
         next: next,
     }
 }
@@ -178,25 +148,34 @@ fn row_lines(
     height: usize,
     c: Cursor,
     out: &mut [u16],
-) -> RowLines
+) -> Cursor
     requires { ⌜ length (now out) ≡ height * width ⌝ }
-    requires { ⌜ c .line + height ≤ 65536 ⌝ }
-    ensures { λ r. ⌜ rowsTold (now (s .entry)) (now (out .exit)) r ≡ rowLines (now (name .entry)) width height (restFrom (now (s .entry)) c) ⌝ }
+    requires { ⌜ Counted c ⌝ }
+    ensures { λ r. ⌜ Step (now (s .entry)) c (rowLines (now (name .entry)) width height) (now (out .exit)) r ⌝ }
 {
     let mut here = c;
     let mut start = 0;
     let mut i = 0;
     while i < height {
         let end = start + width;
-        let got = list_line(s, name, here, &mut out[start..end]);
-        let Passed::Next(next) = got else {
-            return RowLines::Bad(here.line);
-        };
-        here = next;
+        here = list_line(s, name, here, &mut out[start..end]);
         start = end;
         i += 1;
     }
-    RowLines::Next(here)
+    here
+}
+
+// No line may be left.
+fn end_of_text(s: &[u8], c: Cursor) -> Cursor
+    ensures { λ r. ⌜ Last (now (s .entry)) c atEnd tt r ⌝ }
+{
+    if c.refused > 0 {
+        return c;
+    }
+    if c.from < s.len() {
+        return c.refuse(refusal::LINE);
+    }
+    c
 }
 
 // The readings, the correction words, and the end of the text.
@@ -207,88 +186,47 @@ fn plate_lines(
     c: Cursor,
     readings: &mut [u16],
     words: &mut [u16],
-) -> PlateLines
+) -> Cursor
     requires { ⌜ length (now readings) ≡ height * width ⌝ }
     requires { ⌜ length (now words) ≡ height * width ⌝ }
-    requires { ⌜ c .line + height + height ≤ 65536 ⌝ }
-    ensures { λ r. ⌜ plateTold (now (readings .exit)) (now (words .exit)) r ≡ plateLines width height (restFrom (now (s .entry)) c) ⌝ }
+    requires { ⌜ Counted c ⌝ }
+    ensures { λ r. ⌜ Last (now (s .entry)) c (plateLines width height) (now (readings .exit), now (words .exit)) r ⌝ }
 {
-    let rows = row_lines(s, b"row=", width, height, c, readings);
-    match rows {
-        RowLines::Bad(line) => PlateLines::Bad(line),
-        RowLines::Next(middle) => {
-            let rows = row_lines(s, b"cor=", width, height, middle, words);
-            match rows {
-                RowLines::Bad(line) => PlateLines::Bad(line),
-                RowLines::Next(last) => {
-                    if last.at < s.len() {
-                        return PlateLines::Bad(last.line);
-                    }
-                    PlateLines::Filled
-                }
-            }
-        }
-    }
+    let middle = row_lines(s, b"row=", width, height, c, readings);
+    let last = row_lines(s, b"cor=", width, height, middle, words);
+    end_of_text(s, last)
 }
 
 // Reads a text: the numbers of its head, and into the front of the two lent buffers its readings and
 // its correction words.
-pub fn read(s: &[u8], readings: &mut [u16], words: &mut [u16]) -> Reading
+pub(crate) fn read(s: &[u8], readings: &mut [u16], words: &mut [u16]) -> Reading
     requires { ⌜ maxPlate ≤ length (now readings) ⌝ }
     requires { ⌜ maxPlate ≤ length (now words) ⌝ }
     ensures { λ r. ⌜ readingTold (now (readings .exit)) (now (words .exit)) r ≡ reading (now (s .entry)) ⌝ }
 {
-    if s.len() > MAX_BYTES {
+    let start = open(s);
+    let size = size_lines(s, start);
+    let given = setting_lines(s, size.next);
+    let n = size.width * size.height;
+    let last = plate_lines(
+        s,
+        size.width,
+        size.height,
+        given.next,
+        &mut readings[..n],
+        &mut words[..n],
+    );
+    if last.refused > 0 {
         return Reading::Refused {
-            number: refusal::TEXT,
-            place: 0,
+            number: last.refused,
+            place: last.line,
         };
     }
-    let size = size_lines(s);
-    match size {
-        SizeLines::Refused { number, place } => Reading::Refused {
-            number: number,
-            place: place,
-        },
-        SizeLines::Size {
-            width,
-            height,
-            next,
-        } => {
-            let given = setting_lines(s, next);
-            match given {
-                SettingLines::Bad(line) => Reading::Refused {
-                    number: refusal::LINE,
-                    place: line,
-                },
-                SettingLines::Given {
-                    setting,
-                    place,
-                    next,
-                } => {
-                    let n = width * height;
-                    let filled = plate_lines(
-                        s,
-                        width,
-                        height,
-                        next,
-                        &mut readings[..n],
-                        &mut words[..n],
-                    );
-                    match filled {
-                        PlateLines::Bad(line) => Reading::Refused {
-                            number: refusal::LINE,
-                            place: line,
-                        },
-                        PlateLines::Filled => Reading::Plate(Header {
-                            width: width,
-                            height: height,
-                            setting: setting,
-                            place: place,
-                        }),
-                    }
-                }
-            }
-        }
-    }
+    let setting = given.setting;
+    Reading::Plate(Header {
+        width: size.width,
+        height: size.height,
+        setting: setting,
+        at: given.at,
+    })
 }

@@ -3,33 +3,27 @@ use Prim.Native.Nat.{ℕ, _+_, _*_, _^_, _<_, _≤_}
 use mathlib.Core.Path.{_≡_, refl, sym, ap, subst, _∙_}
 use mathlib.Core.List.{List, [], _++_}
 use native.Mathlib.Omega.{arith}
-use lib.IntN.{ℤ, pos}
-use lib.ListN.{length, getD, take, drop, length-append}
+use lib.IntN.{ℤ}
+use lib.ListN.{length, take, drop, length-append}
 use lib.Seq.{take-at, drop-append-add}
-use lib.Signed.{mag}
-use Rattle.basics.proofs.Lists.{any-default}
-use Rattle.plate.specs.Levels.{lowest}
 use Rattle.plate.specs.Refusals.{Verdict, Verdict.accepted, Verdict.refused}
 use Rattle.plate.proofs.Sizes.{good-size}
 use Rattle.survey_text.specs.Reading.{_>>=_, maxPlate}
 use Rattle.survey_text.specs.Printing.{outText, traceText, refusalText}
 use Rattle.survey_text.specs.Survey.{Survey, requested, traced, filteredPlate, printed, surveyText, answer, Answered}
-use Rattle.survey_text.specs.Buffers.{placed, Room, Written}
+use Rattle.surveying.specs.Buffers.{placed, Room, Written}
 use Rattle.survey_text.proofs.Verdicts.{accepted-same}
-use Rattle.survey_text.proofs.Written.{written-then}
-use Rattle.survey_text.proofs.Lengths.{maxOut, maxTrace, out-length, trace-length, refusal-length}
+use Rattle.surveying.proofs.Written.{written-then}
+use Rattle.surveying.proofs.Lengths.{out-length, refusal-length}
 use Rattle.surveying.specs.Surveying.{maxOutput, ShowsOf, Surveyed}
-use Rattle.surveying.specs.Steps.{Fitting, WrittenShort, TraceWritten, SurveyWritten}
-use Rattle.theory.specs.Modes.{Levels}
+use Rattle.surveying.specs.Steps.{maxOut, maxTrace, Fitting, SixteenBits, WrittenShort, TraceWritten, SurveyWritten}
 
 -- ---- room
 
-pub plate-short : (W H : ℕ) (f : List ℤ) → Fitting W H (length f) → Levels f → length (outText W H f) ≤ maxOut
+pub plate-short : (W H : ℕ) (f : List ℤ) → Fitting W H (length f) → SixteenBits f → length (outText W H f) ≤ maxOut
 plate-short W H f fit l =
     let size = good-size W H (fit .good) in
-    out-length W H f
-    (λ i h. subst (λ (v : ℤ). mag v < 32768) (any-default f i lowest (pos 0) h) (l .size i))
-    (size .wide) (omega (arith, size .narrow)) (omega (arith, size .low)) (fit .small)
+    out-length W H f l (size .wide) (omega (arith, size .narrow)) (omega (arith, size .low)) (fit .small)
 
 pub refusal-short : (number place : ℕ) → number < 2 ^ 64 → place < 2 ^ 64 → length (refusalText number place) ≤ maxTrace
 refusal-short number place n p = omega (arith, refusal-length number place n p)
@@ -65,6 +59,9 @@ module _ {text before after : List ℕ} {next : ℕ} (w : Written text 0 before 
   front : take next after ≡ text
   front = rw holds (take-at text (drop (length text) before) next (sym count))
 
+  inside : next ≤ length after
+  inside = omega (arith, count, simp length-append at (ap length holds))
+
   back : drop next after ≡ drop next before
   back = let e : length text + 0 ≡ length text = omega arith in rw (holds, count) (rw e at (drop-append-add text (drop (length text) before) 0))
 
@@ -72,11 +69,11 @@ clash : {A : Type 0} {B : Type 0} {a : A} {n p : ℕ} → refused n p ≡ accept
 clash e = absurd (let z : _≡_ {A = ℕ} 0 1 = cc in omega arith)
 
 module _ (text : List ℕ) {before after : List ℕ} {next : ℕ} where
-  pub surveyed-answer : (v : Survey) → accepted v ≡ requested text → maxOutput ≤ length before → SurveyWritten v before after next → Surveyed text before after next
+  pub surveyed-answer : (v : Survey) → accepted v ≡ requested text → SurveyWritten v before after next → Surveyed text before after next
   unfolding answer
-  surveyed-answer v e enough w =
+  surveyed-answer v e w =
       record {
-        answers = λ l. record {
+        answers = record {
           way = w .way;
           path = w .path;
           shows = λ u level h k.
@@ -85,26 +82,19 @@ module _ (text : List ℕ) {before after : List ℕ} {next : ℕ} where
           prints = rw (← e) (front (w .lines .written));
         };
         rest = back (w .lines .written);
-        fits = omega (arith, count (w .lines .written), w .lines .short);
-        none = λ l. absurd (omega (arith, enough, l));
+        fits = inside (w .lines .written);
       }
 
-  pub surveyed-refusal : (n p : ℕ) → refused n p ≡ requested text → maxOutput ≤ length before → length (refusalText n p) ≤ maxTrace →
-      Written (refusalText n p) 0 before after next → Surveyed text before after next
+  pub surveyed-refusal : (n p : ℕ) → refused n p ≡ requested text → Written (refusalText n p) 0 before after next → Surveyed text before after next
   unfolding answer
-  surveyed-refusal n p e enough short w =
+  surveyed-refusal n p e w =
       record {
-        answers = λ l. record {
+        answers = record {
           way = 0;
           path = [];
           shows = λ u level h k. clash (e ∙ h);
           prints = rw (← e) (front w);
         };
         rest = back w;
-        fits = omega (arith, count w, short);
-        none = λ l. absurd (omega (arith, enough, l));
+        fits = inside w;
       }
-
-pub surveyed-none : (text before : List ℕ) → length before < maxOutput → Surveyed text before before 0
-surveyed-none text before h =
-    record { answers = λ l. absurd (omega (arith, h, l)); rest = refl; fits = omega arith; none = λ l. (refl, refl) }

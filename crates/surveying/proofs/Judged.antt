@@ -90,9 +90,9 @@ module _ (v : Survey) (ready : Ready v) where
 
   -- the trace's checks that are left
   abbrev left : Verdict ℤ
-  left = judged (placeCheck (W * H) (v .place) ∷ pathCheck (crossed W H (s .directions) (s .length) (v .place)) ∷ []) (levelAt (filtered s W H (v .levels)) (v .place))
+  left = judged (placeCheck (W * H) (v .at) ∷ pathCheck (crossed W H (s .directions) (s .length) (v .at)) ∷ []) (levelAt (filtered s W H (v .levels)) (v .at))
 
-  trace-left : (room work : ℕ) → room ≡ s .length → 4 * (s .gaps + 1) * (W * H) ≤ work → traceVerdict W H s (v .levels) (v .place) room work ≡ left
+  trace-left : (room work : ℕ) → room ≡ s .length → 4 * (s .gaps + 1) * (W * H) ≤ work → traceVerdict W H s (v .levels) (v .at) room work ≡ left
   unfolding traceVerdict judged
   trace-left room work e l =
       let c = setting-clear in
@@ -108,21 +108,21 @@ module _ (v : Survey) (ready : Ready v) where
       )
 
   -- a larger work buffer does not change the verdict
-  pub trace-judged : (room work : ℕ) → room ≡ s .length → maxWork ≤ work → traceVerdict W H s (v .levels) (v .place) room work ≡ traced v
+  pub trace-judged : (room work : ℕ) → room ≡ s .length → maxWork ≤ work → traceVerdict W H s (v .levels) (v .at) room work ≡ traced v
   trace-judged room work e l =
       trace-left room work e (omega (arith, work-enough)) ∙ sym (trace-left (s .length) (4 * (s .gaps + 1) * (W * H)) refl (omega arith))
 
   -- a path longer than the plate has pixels
   module _ (long : W * H < s .length) where
-    uncrossed : crossed W H (s .directions) (s .length) (v .place) ≡ false
+    uncrossed : crossed W H (s .directions) (s .length) (v .at) ≡ false
     uncrossed =
         let size = good-size W H (ready .fitting .good) in
         ⊎-elim
-        (λ t. let p = crossed-spans W H (s .directions) (s .length) (v .place) (true-T _ t) in
+        (λ t. let p = crossed-spans W H (s .directions) (s .length) (v .at) (true-T _ t) in
         absurd (omega (arith, p .long, span-within W H (p .bit) (size .wide) (size .high))))
         (λ t. t)
-        (true-or-false (crossed W H (s .directions) (s .length) (v .place)))
+        (true-or-false (crossed W H (s .directions) (s .length) (v .at)))
 
-    pub traced-long : traced v ≡ cond (leb (W * H) (v .place)) (refused 11 0) (refused 12 0)
+    pub traced-long : traced v ≡ cond (leb (W * H) (v .at)) (refused 11 0) (refused 12 0)
     unfolding judged
     traced-long = trace-left (s .length) (4 * (s .gaps + 1) * (W * H)) refl (omega arith) ∙ rw uncrossed

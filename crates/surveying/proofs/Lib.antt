@@ -1,4 +1,11 @@
 pub mod Asked
 pub mod Judged
 pub mod Traces
+pub mod Written
+pub mod Decimals
+pub mod SignedDecimals
+pub mod Parted
+pub mod OutLines
+pub mod Lengths
+pub mod Filtered
 pub mod Answers

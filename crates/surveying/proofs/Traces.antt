@@ -20,9 +20,8 @@ use Rattle.survey_text.specs.Printing.{traceText, refusalText}
 use Rattle.survey_text.specs.Survey.{Survey, traced, printed}
 use Rattle.survey_text.specs.declared.reading.Header.{Header}
 use Rattle.survey_text.proofs.Verdicts.{accepted-same}
-use Rattle.survey_text.proofs.Lengths.{maxTrace}
 use Rattle.surveying.specs.Surveying.{ShowsOf}
-use Rattle.surveying.specs.Steps.{Ready, asked, tracedText, OnPlate, pathless, WrittenShort, TraceWritten}
+use Rattle.surveying.specs.Steps.{maxTrace, Ready, asked, tracedText, OnPlate, pathless, WrittenShort, TraceWritten}
 use Rattle.surveying.proofs.Judged.{traced-long}
 
 clash : {A : Type 0} {B : Type 0} {a : A} {n p : ℕ} → refused n p ≡ accepted a → B
@@ -31,7 +30,7 @@ clash e = absurd (let z : _≡_ {A = ℕ} 0 1 = cc in omega arith)
 module _ (v : Survey) where
   -- what the trace's lent buffers hold
   abbrev After : Traced → (path path′ work work′ : List ℕ) → Type 0
-  After r = traceAfter r (Shows (v .setting) (v .width) (v .height) (v .levels) (v .place))
+  After r = traceAfter r (Shows (v .setting) (v .width) (v .height) (v .levels) (v .at))
 
   pub on-plate : Ready v → (r : Traced) (old path work work′ : List ℕ) → After r old path work work′ → OnPlate r path
   on-plate ready (Path way level) old path work work′ t = λ i h.
@@ -65,7 +64,7 @@ pub no-path-lines : (h : Header) (f : List ℤ) → Ready (asked h f) → maxPla
     {at : ℕ} {before after : List ℕ} {next : ℕ} → WrittenShort (pathless h) maxTrace at before after next → TraceWritten (asked h f) at before after next
 no-path-lines h f ready long {at} {before} {after} {next} w =
     let v = asked h f in
-    let b = leb (h .width * h .height) (h .place) in
+    let b = leb (h .width * h .height) (h .at) in
     let e : traced v ≡ cond b (refused 11 0) (refused 12 0) = traced-long v ready (omega (arith, ready .fitting .small)) in
     record {
       way = 0;

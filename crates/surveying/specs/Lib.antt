@@ -1,2 +1,3 @@
 pub mod Surveying
+pub mod Buffers
 pub mod Steps

@@ -4,17 +4,17 @@ use mathlib.Core.Path.{_≡_}
 use mathlib.Core.Bool.{cond, false}
 use mathlib.Core.List.{List}
 use lib.Dec.{leb}
-use lib.IntN.{ℤ}
+use lib.IntN.{ℤ, pos}
 use lib.ListN.{length, getD}
+use lib.Signed.{mag}
 use Rattle.plate.specs.Refusals.{Verdict, Verdict.accepted, badSize, settingVerdict}
 use Rattle.plate.specs.declared.answer.Traced.{Traced}
 use Rattle.plate.specs.declared.answer.Traced.the-variants.{Path, Refused as Untraced}
 use Rattle.survey_text.specs.Reading.{_>>=_, maxPlate}
 use Rattle.survey_text.specs.Printing.{traceText, refusalText}
 use Rattle.survey_text.specs.Survey.{Survey, traced, printed, surveyText}
-use Rattle.survey_text.specs.Buffers.{Written}
+use Rattle.surveying.specs.Buffers.{Written}
 use Rattle.survey_text.specs.declared.reading.Header.{Header}
-use Rattle.survey_text.proofs.Lengths.{maxTrace}
 use Rattle.surveying.specs.Surveying.{maxOutput, ShowsOf}
 use Rattle.theory.specs.Modes.{Levels}
 
@@ -22,9 +22,19 @@ use Rattle.theory.specs.Modes.{Levels}
 abbrev pub maxWork : ℕ
 maxWork = 18432
 
+-- the longest lines of a plate, of a trace and of a refusal, in bytes
+abbrev pub maxOut : ℕ
+maxOut = 6169
+
+abbrev pub maxTrace : ℕ
+maxTrace = 3122
+
+abbrev pub maxRefusal : ℕ
+maxRefusal = 56
+
 -- what a head asks for, of these levels
 abbrev pub asked : Header → List ℤ → Survey
-asked h f = record { width = h .width; height = h .height; setting = h .setting; place = h .place; levels = f }
+asked h f = record { width = h .width; height = h .height; setting = h .setting; at = h .at; levels = f }
 
 -- the size is good, small, and that of so many levels
 pub record Fitting (W H count : ℕ) : Type 0 where
@@ -32,10 +42,14 @@ pub record Fitting (W H count : ℕ) : Type 0 where
   pub small : W * H ≤ maxPlate
   pub whole : count ≡ W * H
 
+-- every level has 16 bits
+pub record SixteenBits (f : List ℤ) : Type 0 where
+  pub each : (p : ℕ) → p < length f → mag (getD f p (pos 0)) < 32768
+
 -- a survey that passed reading, correction and setting
 pub record Ready (v : Survey) : Type 0 where
   pub fitting : Fitting (v .width) (v .height) (length (v .levels))
-  pub levels : Levels (v .levels)
+  pub levels : SixteenBits (v .levels)
   pub valid : settingVerdict (v .setting) ≡ accepted (v .setting)
 
 -- the lines of a trace's answer
@@ -50,7 +64,7 @@ OnPlate (Untraced number place) path = Unit
 
 -- the lines where no path is long enough
 abbrev pub pathless : Header → List ℕ
-pathless h = cond (leb (h .width * h .height) (h .place)) (refusalText 11 0) (refusalText 12 0)
+pathless h = cond (leb (h .width * h .height) (h .at)) (refusalText 11 0) (refusalText 12 0)
 
 -- a text of at most so many bytes was written at a place of the buffer
 pub record WrittenShort (text : List ℕ) (most at : ℕ) (before after : List ℕ) (next : ℕ) : Type 0 where

@@ -9,13 +9,16 @@ ghost use lib.ListN.{length};
 ghost use Rattle.survey_text.specs.Reading.{maxPlate};
 ghost use Rattle.surveying.specs.Surveying.{maxOutput, Surveyed};
 ghost use Rattle.surveying.specs.Steps.{maxWork, asked, Ready, SurveyWritten};
-use crate::showing::show_plate;
-use crate::showing::show_trace;
+use crate::printing::print_plate;
+use crate::printing::print_refusal;
+use crate::traced::write_trace;
 use survey_text::Header;
 use survey_text::MAX_PLATE;
 use survey_text::Reading;
 
-mod showing;
+mod printing;
+mod traced;
+mod writing;
 
 // No answer is longer, in bytes.
 pub const MAX_OUTPUT: usize = 16384;
@@ -23,18 +26,14 @@ pub const MAX_OUTPUT: usize = 16384;
 // Four sets of nine planes of the largest plate.
 const MAX_WORK: usize = 18432;
 
-// Writes the answer to a text at the front of out, and answers how many bytes it is. Into a buffer
-// that is shorter than MAX_OUTPUT it writes nothing.
-pub fn survey(text: &[u8], out: &mut [u8]) -> usize
+// Writes the answer to a text at the front of out, and answers how many bytes it is.
+pub fn survey(text: &[u8], out: &mut [u8; MAX_OUTPUT]) -> usize
     ensures { λ r. ⌜ Surveyed (now (text .entry)) (now (out .entry)) (now (out .exit)) r ⌝ }
 {
-    if out.len() < MAX_OUTPUT {
-        return 0;
-    }
     let mut levels = [0i16; MAX_PLATE];
     let got = survey_text::request(text, &mut levels);
     match got {
-        Reading::Refused { number, place } => survey_text::print_refusal(number, place, out, 0),
+        Reading::Refused { number, place } => print_refusal(number, place, out, 0),
         Reading::Plate(head) => {
             let n = head.width * head.height;
             answer(head, &levels[..n], out)
@@ -51,7 +50,7 @@ fn answer(head: Header, levels: &[i16], out: &mut [u8]) -> usize
     let mut result = [0i16; MAX_PLATE];
     let mut path = [0usize; MAX_PLATE];
     let mut work = work_buffer();
-    show(head, levels, &mut result, &mut path, &mut work, out)
+    write_answer(head, levels, &mut result, &mut path, &mut work, out)
 }
 
 // What is in it before the first use is free, so that its length is all that is said.
@@ -62,7 +61,7 @@ fn work_buffer() -> [u16; MAX_WORK]
 }
 
 // The filtered plate, then the trace.
-fn show(
+fn write_answer(
     head: Header,
     levels: &[i16],
     result: &mut [i16],
@@ -86,6 +85,6 @@ fn show(
         &mut result[..n],
         work,
     );
-    let next = show_plate(head.width, head.height, &result[..n], out);
-    show_trace(head, levels, path, work, out, next)
+    let next = print_plate(head.width, head.height, &result[..n], out, 0);
+    write_trace(head, levels, path, work, out, next)
 }

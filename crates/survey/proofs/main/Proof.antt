@@ -1,5 +1,4 @@
--- `main` lends the front of each buffer: what was read, and what was written, which is at most MAX_OUTPUT bytes.
-use native.Mathlib.Omega.{arith}
+-- `main` lends the front of each buffer: what was read, and what was written, which lies within its array.
 use mathlib.Core.Path.{sym}
 use lib.Seq.{length-take-le}
 use borrow.Author.Needs.{needs}
@@ -15,8 +14,8 @@ slice-aggregate-read-full c = search needs
 read-full-requires : tie.Need-read-full-requires
 read-full-requires c κs = search needs
 
-large-buffer-requires-2 : tie.Need-large-buffer-requires-2
-large-buffer-requires-2 c κs = search needs
+answer-buffer-requires : tie.Need-answer-buffer-requires
+answer-buffer-requires c κs = search needs
 
 array-share-prefix-text : tie.Need-array-share-prefix-text
 array-share-prefix-text c = search needs
@@ -24,18 +23,14 @@ array-share-prefix-text c = search needs
 slice-aggregate-survey : tie.Need-slice-aggregate-survey
 slice-aggregate-survey c = search needs
 
-slice-aggregate-survey-2 : tie.Need-slice-aggregate-survey-2
-slice-aggregate-survey-2 c = search needs
-
 survey-requires : tie.Need-survey-requires
 survey-requires c κs = search needs
 
 array-share-prefix-out : tie.Need-array-share-prefix-out
-array-share-prefix-out c = search needs
+array-share-prefix-out c = c .survey .ensures .fits
 
 slice-aggregate-write-all : tie.Need-slice-aggregate-write-all
-slice-aggregate-write-all c = let s = c .before .before in
-    sym (length-take-le _ _ (omega (arith, s .survey .kept .1 .0, s .survey .ensures .fits, s .before .before .before .large-buffer2 .ensures)))
+slice-aggregate-write-all c = sym (length-take-le _ _ (c .before .survey .ensures .fits))
 
 write-all-requires : tie.Need-write-all-requires
 write-all-requires c κs = search needs
@@ -50,10 +45,9 @@ main-spec =
     large-buffer-requires
     slice-aggregate-read-full
     read-full-requires
-    large-buffer-requires-2
+    answer-buffer-requires
     array-share-prefix-text
     slice-aggregate-survey
-    slice-aggregate-survey-2
     survey-requires
     array-share-prefix-out
     slice-aggregate-write-all

@@ -1,4 +1,4 @@
--- `answer` lends the three buffers, which are as long as `show` asks.
+-- `answer` lends the three buffers, which are as long as `write_answer` asks.
 use native.Mathlib.Omega.{arith}
 use borrow.Author.Needs.{needs}
 use Rattle.surveying.proofs.answer.Statement.{statement}
@@ -7,17 +7,17 @@ use Rattle.surveying.proofs.answer.Tie as tie
 work-buffer-requires : tie.Need-work-buffer-requires
 work-buffer-requires c κs = search needs
 
-slice-aggregate-show : tie.Need-slice-aggregate-show
-slice-aggregate-show c = search needs
+slice-aggregate-write-answer : tie.Need-slice-aggregate-write-answer
+slice-aggregate-write-answer c = search needs
 
-slice-aggregate-show-2 : tie.Need-slice-aggregate-show-2
-slice-aggregate-show-2 c = search needs
+slice-aggregate-write-answer-2 : tie.Need-slice-aggregate-write-answer-2
+slice-aggregate-write-answer-2 c = search needs
 
-slice-aggregate-show-3 : tie.Need-slice-aggregate-show-3
-slice-aggregate-show-3 c = search needs
+slice-aggregate-write-answer-3 : tie.Need-slice-aggregate-write-answer-3
+slice-aggregate-write-answer-3 c = search needs
 
-show-requires : tie.Need-show-requires
-show-requires c κs = let w = c .before .before .before .before in
+write-answer-requires : tie.Need-write-answer-requires
+write-answer-requires c κs = let w = c .before .before .before .before in
     let b = w .before .before in
     (b .pre .0, (omega arith, (omega arith, (omega (arith, w .work-buffer .ensures), b .pre .1))))
 
@@ -32,9 +32,9 @@ answer-spec =
     tie.close
     (tie.spec
     work-buffer-requires
-    slice-aggregate-show
-    slice-aggregate-show-2
-    slice-aggregate-show-3
-    show-requires
+    slice-aggregate-write-answer
+    slice-aggregate-write-answer-2
+    slice-aggregate-write-answer-3
+    write-answer-requires
     same-length
     returns)

@@ -1,32 +1,17 @@
--- `request` goes through reading, correction and the setting: each return is a law of the definition, at what the calls answered.
+-- `request` hands what was read to `fill`: a text that was read has a small plate, so that the lent parts are the readings and the words.
 use borrow.Author.Needs.{needs}
 use native.Mathlib.Omega.{arith}
-use mathlib.Core.Path.{_≡_, sym, _∙_}
+use mathlib.Core.Path.{_≡_, refl, sym}
 use Prim.Native.Nat.{_*_, _≤_}
 use lib.ListN.{length, take}
-use lib.Seq.{take-at, length-take-le}
+use lib.Seq.{length-take-le}
 use Rattle.plate.specs.Refusals.{Verdict.accepted}
 use Rattle.survey_text.specs.Reading.{maxPlate, reading}
-use Rattle.survey_text.specs.Survey.{requested}
+use Rattle.survey_text.specs.Answers.{withLists}
 use Rattle.survey_text.proofs.Heads.{reading-sized}
-use Rattle.survey_text.proofs.Requests.{withLists, not-corrected, setting-checked}
+use Rattle.survey_text.proofs.Requests.{unread, read}
 use Rattle.survey_text.proofs.asking.request.Statement.{statement}
 use Rattle.survey_text.proofs.asking.request.Tie as tie
-
-slice-aggregate-read : tie.Need-slice-aggregate-read
-slice-aggregate-read c = search needs
-
-slice-aggregate-read-2 : tie.Need-slice-aggregate-read-2
-slice-aggregate-read-2 c = search needs
-
-read-requires : tie.Need-read-requires
-read-requires c κs = search needs
-
-enum-known-got : tie.Need-enum-known-got
-enum-known-got c = search needs
-
-enum-known-got-2 : tie.Need-enum-known-got-2
-enum-known-got-2 c = search needs
 
 -- the text was read
 was-read : (c : tie.After-got2) → let r = c .before .before .before .before in
@@ -46,68 +31,44 @@ readings-fit c = omega (arith, small c, c .before .before .before .before .read 
 words-fit : (c : tie.After-got2) → c .got2 .given .0 .0 .width * c .got2 .given .0 .0 .height ≤ length (c .before .before .before .before .read .last .1 .1 .0)
 words-fit c = omega (arith, small c, c .before .before .before .before .read .kept .1 .1 .0)
 
-levels-fit : (c : tie.After-got2) → c .got2 .given .0 .0 .width * c .got2 .given .0 .0 .height ≤ length (c .before .before .before .before .before .before .before .before .args .levels .now)
-levels-fit c = omega (arith, small c, c .before .before .before .before .before .before .before .before .pre)
+slice-aggregate-read : tie.Need-slice-aggregate-read
+slice-aggregate-read c = search needs
+
+slice-aggregate-read-2 : tie.Need-slice-aggregate-read-2
+slice-aggregate-read-2 c = search needs
+
+read-requires : tie.Need-read-requires
+read-requires c κs = search needs
+
+enum-known-got : tie.Need-enum-known-got
+enum-known-got c = search needs
+
+enum-known-got-2 : tie.Need-enum-known-got-2
+enum-known-got-2 c = search needs
 
 mul-n : tie.Need-mul-n
-mul-n c = omega (arith, small (c .before .before))
+mul-n c = record { fits = omega (arith, small (c .before .before)) }
 
 array-share-prefix-readings : tie.Need-array-share-prefix-readings
 array-share-prefix-readings c = readings-fit (c .before .before)
 
-slice-aggregate-correct : tie.Need-slice-aggregate-correct
-slice-aggregate-correct c = sym (length-take-le _ _ (readings-fit (c .before .before .before)))
+slice-aggregate-fill : tie.Need-slice-aggregate-fill
+slice-aggregate-fill c = sym (length-take-le _ _ (readings-fit (c .before .before .before)))
 
 array-share-prefix-words : tie.Need-array-share-prefix-words
 array-share-prefix-words c = words-fit (c .before .before .before)
 
-slice-aggregate-correct-2 : tie.Need-slice-aggregate-correct-2
-slice-aggregate-correct-2 c = sym (length-take-le _ _ (words-fit (c .before .before .before .before)))
+slice-aggregate-fill-2 : tie.Need-slice-aggregate-fill-2
+slice-aggregate-fill-2 c = sym (length-take-le _ _ (words-fit (c .before .before .before .before)))
 
-slice-relend-prefix-correct : tie.Need-slice-relend-prefix-correct
-slice-relend-prefix-correct c = levels-fit (c .before .before .before .before)
-
-slice-aggregate-correct-3 : tie.Need-slice-aggregate-correct-3
-slice-aggregate-correct-3 c = sym (length-take-le _ _ (levels-fit (c .before .before .before .before .before)))
-
-correct-requires : tie.Need-correct-requires
-correct-requires c κs = search needs
-
-enum-known-done : tie.Need-enum-known-done
-enum-known-done c = search needs
-
-enum-told : tie.Need-enum-told
-enum-told c = search needs
-
-checked-requires : tie.Need-checked-requires
-checked-requires c κs = search needs
+fill-requires : tie.Need-fill-requires
+fill-requires c κs = (small (c .before .before .before .before .before), search needs)
 
 returns : tie.Need-returns
-unfolding requested
-returns c = rw (← (rw (c .before .got .given .1) at (c .before .before .before .before .before .read .ensures)))
-
-same-length : tie.Need-same-length
-same-length c = search needs
+returns c = rw (unread _ _ _ (rw (c .before .got .given .1) at (c .before .before .before .before .before .read .ensures))) (refl, refl)
 
 returns-2 : tie.Need-returns-2
-returns-2 c = let d = c .before .before .before .before in
-    let g = d .before .before .before .before .before .before in
-    let n = g .got2 .given .0 .0 .width * g .got2 .given .0 .0 .height in
-    not-corrected _ (g .got2 .given .0 .0) _ _ (was-read g) _ _
-    (rw (length-take-le n _ (levels-fit g), c .before .done .given .1) at (d .correct .ensures .0))
-
-same-length-2 : tie.Need-same-length-2
-same-length-2 c = search needs
-
-returns-3 : tie.Need-returns-3
-returns-3 c = let d = c .before .before .before .before in
-    let g = d .before .before .before .before .before .before in
-    let n = g .got2 .given .0 .0 .width * g .got2 .given .0 .0 .height in
-    let t = c .before .enum-told .given .1 in
-    rw (c .checked .ensures)
-    (setting-checked _ (g .got2 .given .0 .0) _ _ (was-read g) _
-    (rw (length-take-le n _ (levels-fit g), t) at (d .correct .ensures .0))
-    (take-at (d .correct .last .1 .1 .1 .1 .0) _ n (d .correct .kept .1 .1 .1 .1 .0 ∙ length-take-le n _ (levels-fit g)) ∙ rw t at (d .correct .ensures .1)))
+returns-2 c = rw (read _ _ (was-read (c .before .before .before .before .before .before))) (c .fill .ensures)
 
 pub request-spec : {M : Type 1} → statement M
 request-spec =
@@ -120,17 +81,9 @@ request-spec =
     enum-known-got-2
     mul-n
     array-share-prefix-readings
-    slice-aggregate-correct
+    slice-aggregate-fill
     array-share-prefix-words
-    slice-aggregate-correct-2
-    slice-relend-prefix-correct
-    slice-aggregate-correct-3
-    correct-requires
-    enum-known-done
-    enum-told
-    checked-requires
+    slice-aggregate-fill-2
+    fill-requires
     returns
-    same-length
-    returns-2
-    same-length-2
-    returns-3)
+    returns-2)

@@ -70,7 +70,7 @@ returns-4 c = let f = c .before .before .before .before in
     let b = f .before .before .before .before .before in
     let r = rw (not-false (c .before .begins .result) (c .if3 .left)) at (c .before .begins .ensures) in
     let n = name-fits (b .args .s .now) (b .args .name .now) (b .args .at) _ (found f) (omega arith) r in
-    (sym (the-value (b .args .s .now) (b .args .name .now) (b .args .at) _ (found f) (omega arith) r), (omega arith, omega arith))
+    (sym (the-value (b .args .s .now) (b .args .name .now) (b .args .at) _ (found f) (omega arith) r), (omega arith, omega arith, omega arith))
 
 pub value-at-spec : {M : Type 1} → statement M
 value-at-spec =

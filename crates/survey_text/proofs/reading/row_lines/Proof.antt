@@ -1,11 +1,9 @@
--- `row_lines` reads line by line into the parts of the lent buffer: the invariant is `Rows`, and each return is a law of it.
+-- `row_lines` reads line by line into the parts of the lent buffer: the invariant is `Rows`, and each step is a law of it.
 use borrow.Author.Needs.{needs}
 use native.Mathlib.Omega.{arith}
-use mathlib.Core.Path.{_∙_}
 use Prim.Native.Nat.{_+_, _-_, _≤_}
 use lib.ListN.{length}
-use borrow.Rule.Slice.PartMut.{same-len-mid}
-use Rattle.survey_text.proofs.Rows.{Rows, rows-none, rows-end, row-room, rows-bad, rows-more}
+use Rattle.survey_text.proofs.Rows.{Rows, rows-none, rows-end, row-room, rows-more}
 use Rattle.survey_text.proofs.reading.row_lines.Statement.{statement}
 use Rattle.survey_text.proofs.reading.row_lines.Tie as tie
 
@@ -15,12 +13,12 @@ Inv-loop s name width height out₀ here₀ start₀ i₀ out here start i = Row
 abbrev μ-loop : tie.MeasureT-loop
 μ-loop s name width height out₀ here₀ start₀ i₀ out here start i = height - i
 
-loop-holds : tie.Need-loop-holds Inv-loop μ-loop
-loop-holds c = rows-none _ _ _ _ _ _
-
 -- the next row has room
 room : (c : tie.In-loop Inv-loop μ-loop) → c .before .loop .start + c .before .before .before .before .before .args .width ≤ length (c .before .loop .out)
 room c = row-room _ _ _ _ _ _ _ _ _ _ (c .before .loop .inv) (c .before .before .before .before .before .pre .0) (c .loop-test .taken)
+
+loop-holds : tie.Need-loop-holds Inv-loop μ-loop
+loop-holds c = rows-none _ _ _ _ _ _ (c .before .before .before .pre .1)
 
 add-end : tie.Need-add-end Inv-loop μ-loop
 add-end c = omega (arith, room c)
@@ -38,26 +36,7 @@ part-list-line-end : tie.Need-part-list-line-end Inv-loop μ-loop
 part-list-line-end c = room c
 
 list-line-requires : tie.Need-list-line-requires Inv-loop μ-loop
-list-line-requires c κs = omega (arith, c .before .before .loop .inv .line, c .before .before .before .before .before .before .pre .1)
-
-enum-known-got : tie.Need-enum-known-got Inv-loop μ-loop
-enum-known-got c = search needs
-
-enum-told : tie.Need-enum-told Inv-loop μ-loop
-enum-told c = search needs
-
-same-length : tie.Need-same-length Inv-loop μ-loop
-same-length c = let l = c .before .before .before .before in
-    let w = l .before .before in
-    let at = w .before .loop .start in
-    let W = w .before .before .before .before .before .args .width in
-    same-len-mid at (at + W - at) (w .before .loop .out) (l .list-line .last .1 .1 .1 .0) (l .list-line .kept .1 .1 .1 .0) ∙ w .before .loop .inv .same
-
-returns : tie.Need-returns Inv-loop μ-loop
-returns c = let l = c .before .before .before .before in
-    let w = l .before .before in
-    let b = w .before .before .before .before .before in
-    rows-bad _ _ _ _ _ _ _ _ _ _ (w .before .loop .inv) (b .pre .0) (w .loop-test .taken) (rw (c .enum-told .given .1) at (l .list-line .ensures))
+list-line-requires c κs = c .before .before .loop .inv .counted
 
 add-i : tie.Need-add-i Inv-loop μ-loop
 add-i c = search needs
@@ -66,18 +45,16 @@ loop-less : tie.Need-loop-less Inv-loop μ-loop
 loop-less c = search needs
 
 loop-again : tie.Need-loop-again Inv-loop μ-loop
-loop-again c = let l = c .before .before .before .before .before in
+loop-again c = let l = c .before .before in
     let w = l .before .before in
     let b = w .before .before .before .before .before in
-    rows-more _ _ _ _ _ _ _ _ _ _ (w .before .loop .inv) (b .pre .0) (w .loop-test .taken) (l .list-line .last .1 .1 .1 .0) _ (l .list-line .kept .1 .1 .1 .0)
-    (rw (c .before .got .given .1) at (l .list-line .ensures))
+    rows-more _ _ _ _ _ _ _ _ _ _ (w .before .loop .inv) (b .pre .0) (w .loop-test .taken) (l .list-line .last .1 .1 .1 .0) _ (l .list-line .kept .1 .1 .1 .0) (l .list-line .ensures)
 
-same-length-2 : tie.Need-same-length-2 Inv-loop μ-loop
-same-length-2 c = c .before .loop .inv .same
+same-length : tie.Need-same-length Inv-loop μ-loop
+same-length c = c .before .loop .inv .same
 
-returns-2 : tie.Need-returns-2 Inv-loop μ-loop
-returns-2 c = let b = c .before .before .before .before .before in
-    rows-end _ _ _ _ _ _ _ _ _ _ (c .before .loop .inv) (b .pre .0) (c .loop-test .left)
+returns : tie.Need-returns Inv-loop μ-loop
+returns c = rows-end _ _ _ _ _ _ _ _ _ _ (c .before .loop .inv) (c .before .before .before .before .before .pre .0) (c .loop-test .left)
 
 pub row-lines-spec : {M : Type 1} → statement M
 row-lines-spec =
@@ -92,12 +69,8 @@ row-lines-spec =
     part-list-line-start
     part-list-line-end
     list-line-requires
-    enum-known-got
-    enum-told
-    same-length
-    returns
     add-i
     loop-less
     loop-again
-    same-length-2
-    returns-2)
+    same-length
+    returns)
