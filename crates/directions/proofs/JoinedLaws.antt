@@ -19,9 +19,9 @@ use Rattle.theory.proofs.Sides.{side}
 use Rattle.frames.specs.Frames.{Framed, placeIn}
 use Rattle.directions.specs.Gathering.{Raised, bestOf}
 use Rattle.frames.specs.declared.frame.Frame.{Frame}
-use Rattle.rows.specs.Plans.{lineAt, rowLo, rowHi, rowAt}
-use Rattle.states.specs.Sweeps.{met, AllJoined}
-use Rattle.rows.specs.declared.plan.Plan.{Plan}
+use Rattle.plans.specs.Plans.{lineAt, rowLo, rowHi, rowAt}
+use Rattle.sweeps.specs.Sweeps.{met, AllJoined}
+use Rattle.plans.specs.declared.plan.Plan.{Plan}
 use Rattle.directions.specs.Plans.{FrameOf, filterPlan, filterStates}
 use Rattle.directions.specs.Numbers.{stepsAt, pixelIn, numberAt, placeKept, keysBy}
 use Rattle.directions.specs.Gathering.{Risen}

@@ -11,8 +11,8 @@ use borrow.Author.Tests.{le-leb, lt-leb}
 use Rattle.basics.proofs.Numbers.{le-or-lt}
 use Rattle.frames.specs.Frames.{placeIn}
 use Rattle.frames.specs.declared.frame.Frame.{Frame}
-use Rattle.rows.specs.Plans.{lineOf, firstIn, pastIn, keysOf, orderOf, lineAt, rowLo, rowHi, rowAt, rowsIn}
-use Rattle.rows.specs.declared.plan.Plan.{Plan}
+use Rattle.plans.specs.Plans.{lineOf, firstIn, pastIn, keysOf, orderOf, lineAt, rowLo, rowHi, rowAt, rowsIn}
+use Rattle.plans.specs.declared.plan.Plan.{Plan}
 use Rattle.directions.specs.declared.plan.Area.{Area}
 use Rattle.directions.specs.Plans.{straightPlan, stillPlan, rankedPlan, wholeArea, AreaOf, spareOf, filterPlan, filterStates}
 use Rattle.directions.specs.Numbers.{pixelIn, lineKept, placeKept}

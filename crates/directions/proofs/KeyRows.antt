@@ -19,7 +19,7 @@ use Rattle.theory.proofs.Steps.{column-below, row-below}
 use Rattle.frames.specs.Keys.{keyBy}
 use Rattle.frames.specs.Frames.{placeIn}
 use Rattle.frames.specs.declared.frame.Frame.{Frame}
-use Rattle.rows.specs.Runs.{Between}
+use Rattle.states.specs.Runs.{Between}
 use Rattle.directions.specs.Numbers.{KeptOn, lineKept, placeKept, keysBy, SmallKept}
 
 -- ---- the place of a key

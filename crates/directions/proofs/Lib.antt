@@ -8,8 +8,7 @@ pub mod StraightLaws
 pub mod StillLaws
 pub mod RankedLaws
 pub mod SequenceLaws
-pub mod PlanLaws
-pub mod RankedPlans
+pub mod PlanForms
 pub mod FilterLaws
 pub mod RoomLaws
 pub mod TableLaws
@@ -20,6 +19,8 @@ pub mod StepPlaces
 pub mod TraceAreas
 pub mod TraceRows
 pub mod TraceLaws
+pub mod DoorLaws
 pub mod OpeningLaws
+pub mod SightLaws
 pub mod TracePlans
 pub mod TraceTaps

@@ -12,18 +12,21 @@ use Rattle.theory.proofs.Ends.{anywhere}
 use Rattle.frames.specs.Frames.{Framed}
 use Rattle.directions.specs.Gathering.{Raised, bestOf}
 use Rattle.frames.specs.declared.frame.Frame.{Frame}
-use Rattle.rows.specs.Runs.{Between}
-use Rattle.rows.specs.Plans.{keysSize, Sound}
-use Rattle.states.specs.Stacks.{KeysAre, Sequence}
-use Rattle.states.specs.Sweeps.{Opposite, AllJoined, Swept}
-use Rattle.rows.specs.declared.plan.Plan.{Plan}
-use Rattle.directions.specs.Plans.{byRows, byRanks, filterPlan, filterStates, FrameOf, Oriented}
+use Rattle.states.specs.Runs.{Between}
+use Rattle.plans.specs.Plans.{keysSize}
+use Rattle.sweeps.specs.Stacks.{KeysAre, Sequence}
+use Rattle.sweeps.specs.Sweeps.{AllJoined, Swept}
+use Rattle.sweeps.specs.Doors.{statesOf, otherEnd, sweepable}
+use Rattle.sweeps.proofs.DoorTests.{sweeps-if}
+use Rattle.plans.specs.declared.plan.Plan.{Plan}
+use Rattle.plans.specs.declared.plan.Reach.{Reach}
+use Rattle.directions.specs.Plans.{byRows, byRanks, filterPlan, filterStates, reachIn, FrameOf, Oriented}
 use Rattle.directions.specs.Numbers.{KeptOn, placeKept, keysBy, numberAt}
 use Rattle.directions.specs.Gathering.{Risen}
 use Rattle.theory.specs.Walks.{around}
 use Rattle.directions.proofs.KeptLaws.{keyed, same-ranked}
-use Rattle.directions.proofs.FilterLaws.{filter-sound, filter-opposite}
-use Rattle.directions.proofs.RoomLaws.{Roomy, filter-room, filter-lines, filter-across, filter-ranked}
+use Rattle.directions.proofs.FilterLaws.{filter-formed, filter-other, filter-count, filter-states-few}
+use Rattle.directions.proofs.RoomLaws.{Roomy, room-asked, filter-room, filter-lines, filter-across, filter-ranked}
 use Rattle.directions.proofs.SequenceLaws.{filter-sequence}
 use Rattle.directions.proofs.JoinedLaws.{plate-raised}
 
@@ -31,23 +34,21 @@ both : (a b : Bool) → (a && b) ≡ true → a ≡ true
 both true b h = refl
 both false b h = h
 
--- what is asked of both sides of a direction to sweep and join them, and what is known afterwards
-pub record Opening (r : Frame) (W H index L k : ℕ) (p o : Plan) (n : ℕ) : Type 0 where
+-- what is asked of a side of a direction and of the steps back to sweep and join both sides, and what is known afterwards
+pub record Opening (r : Frame) (W H index L k : ℕ) (p : Plan) (back : Reach) : Type 0 where
   pub kept : KeptOn r (p .ranked)
-  pub sound : Sound p
-  pub sound-back : Sound o
-  pub opposite : Opposite p o n
-  pub roomy : (room : ℕ) → 4 * (k + 1) * (W * H) ≤ room → Roomy p room
+  pub taken : (room : ℕ) → 4 * (k + 1) * (W * H) ≤ room → sweepable p back room 65536 ≡ true
   pub keys-fit : (room : ℕ) → 4 * (k + 1) * (W * H) ≤ room → r .lines * r .across ≤ room
   pub raised : (mode : ℕ) (plate : List ℤ) (old work zeros best : List ℕ) (start new : List ℤ) →
-      Between (λ q. keysBy mode plate (placeKept r (p .ranked) q)) old work 0 (r .lines * r .across) → Swept p o n work zeros best →
-      ((q : ℕ) → getD zeros q 0 ≡ 0) → Risen r (p .ranked) best start new 0 (r .lines * r .across) → length start ≡ W * H →
+      Between (λ q. keysBy mode plate (placeKept r (p .ranked) q)) old work 0 (r .lines * r .across) →
+      Swept p (otherEnd p back) (statesOf p) work zeros best → ((q : ℕ) → getD zeros q 0 ≡ 0) →
+      Risen r (p .ranked) best start new 0 (r .lines * r .across) → length start ≡ W * H →
       Raised (bestOf W H index mode (L - 1) k plate) start new 0 (W * H)
 
 -- ---- the frame
 
 module _ (r : Frame) (W H index : ℕ) (framed : Framed r W H index) (of : FrameOf r W H index) (known : index < 4) where
-  oriented : (by-rows back : Bool) → by-rows ≡ byRows W H index → Oriented r (record { index = index; rows = by-rows; back = back })
+  pub oriented : (by-rows back : Bool) → by-rows ≡ byRows W H index → Oriented r (record { index = index; rows = by-rows; back = back })
   oriented by-rows back is =
       record {
         known = known;
@@ -133,16 +134,29 @@ module _ (r : Frame) (W H index : ℕ) (framed : Framed r W H index) (of : Frame
           plate-raised r W H index by-rows L planes k framed of known some fit is-planes zeros best start new none mode plate
           (joined old work zeros best filled swept) risen size
 
-    -- ---- the same of the plans that the code has made
+    -- ---- the same of the plan and the steps that the code has made
 
-    pub opening : (p o : Plan) (n : ℕ) → p ≡ filterPlan r by-rows false L planes → o ≡ filterPlan r by-rows true L planes → n ≡ filterStates r L →
-        Opening r W H index L k p o n
-    opening p o n is-p is-o is-n = rw (is-p, is-o, is-n) (record {
-      kept = kept-side;
-      sound = filter-sound r L framed of some few fit by-rows planes false (omega arith) (omega arith);
-      sound-back = filter-sound r L framed of some few fit by-rows planes true (omega arith) (omega arith);
-      opposite = filter-opposite r L framed of some few fit by-rows planes;
-      roomy = room-side;
-      keys-fit = λ room h. omega (arith, room-side room h .alone, keys-side);
-      raised = side-opened;
-    })
+    abbrev steps-back : Reach
+    steps-back = reachIn r by-rows (side false .ranked) true
+
+    side-taken : (room : ℕ) → 4 * (k + 1) * (W * H) ≤ room → sweepable (side false) steps-back room 65536 ≡ true
+    side-taken room h =
+        let roomy = room-side room h in
+        let other = filter-formed r L framed of some few fit by-rows planes true (omega arith) (omega arith) in
+        sweeps-if (side false) steps-back room 65536 (filter-formed r L framed of some few fit by-rows planes false (omega arith) (omega arith))
+        (roomy .halves) (rw (filter-other r L framed of some few fit by-rows planes) other)
+        (omega (arith, filter-count r L framed of some few fit by-rows planes, filter-states-few r L framed of some few fit))
+        (room-asked (side false) room roomy) (roomy .keys)
+
+    pub opening : (p : Plan) (back : Reach) → p ≡ filterPlan r by-rows false L planes → back ≡ reachIn r by-rows (p .ranked) true →
+        Opening r W H index L k p back
+    opening p back is-p is-back =
+        let is-steps : back ≡ steps-back = rw is-p at is-back in
+        rw (is-p, is-steps) (record {
+          kept = kept-side;
+          taken = side-taken;
+          keys-fit = λ room h. omega (arith, room-side room h .alone, keys-side);
+          raised = λ mode plate old work zeros best start new filled swept.
+              side-opened mode plate old work zeros best start new filled
+              (rw (filter-other r L framed of some few fit by-rows planes, filter-count r L framed of some few fit by-rows planes) at swept);
+        })

@@ -6,12 +6,12 @@ use mathlib.Core.Bool.{Bool, true, false, cond}
 use native.Mathlib.Omega.{arith}
 use Rattle.frames.specs.Frames.{placeIn}
 use Rattle.frames.specs.declared.frame.Frame.{Frame}
-use Rattle.rows.specs.Plans.{lineOf, firstIn, pastIn, orderOf, lineAt, rowLo, rowHi, rowsIn}
-use Rattle.rows.specs.declared.plan.Plan.{Plan}
+use Rattle.plans.specs.Plans.{lineOf, firstIn, pastIn, orderOf, lineAt, rowLo, rowHi, rowsIn}
+use Rattle.plans.specs.declared.plan.Plan.{Plan}
 use Rattle.directions.specs.Plans.{straightPlan, stillPlan, rankedPlan, wholeArea, spareOf, filterPlan, filterStates}
 use Rattle.directions.specs.Numbers.{stepsAt, pixelIn}
 use Rattle.directions.proofs.ChoiceLaws.{filter-choice}
-use Rattle.directions.proofs.PlanLaws.{still-rows}
+use Rattle.plans.proofs.LineForms.{still-rows}
 
 -- the row whose walks of n steps go on from pixel x of line i
 pub record RowFor (r : Frame) (p : Plan) (states i x n : ℕ) : Type 0 where

@@ -8,9 +8,9 @@ use mathlib.Core.Logic.{⊎-elim}
 use native.Mathlib.Omega.{arith}
 use Rattle.frames.specs.Frames.{Framed, placeIn, spot, past, onward}
 use Rattle.frames.specs.declared.frame.Frame.{Frame}
-use Rattle.rows.specs.Plans.{lineOf, orderOf, firstIn, pastIn, lineAt, rowsIn, rowLo, rowHi}
+use Rattle.plans.specs.Plans.{lineOf, orderOf, firstIn, pastIn, lineAt, rowsIn, rowLo, rowHi}
 use Rattle.states.specs.States.{rowBefore, lastBefore, seen, ahead, Grown}
-use Rattle.rows.specs.declared.plan.Plan.{Plan}
+use Rattle.plans.specs.declared.plan.Plan.{Plan}
 use Rattle.directions.specs.Plans.{rankedPlan, AreaOf}
 use Rattle.directions.specs.Numbers.{numberAt}
 use Rattle.directions.specs.declared.plan.Area.{Area}

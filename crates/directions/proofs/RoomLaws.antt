@@ -10,8 +10,10 @@ use Rattle.basics.proofs.Numbers.{le-or-lt}
 use Rattle.basics.proofs.Tests.{true-or-false}
 use Rattle.frames.specs.Frames.{Bounded, Framed}
 use Rattle.frames.specs.declared.frame.Frame.{Frame}
-use Rattle.rows.specs.Plans.{halfOf, stateSize, keysSize}
-use Rattle.rows.specs.declared.plan.Plan.{Plan}
+use Rattle.plans.specs.Plans.{halfOf, stateSize, keysSize}
+use Rattle.plans.specs.declared.plan.Plan.{Plan}
+use Rattle.sweeps.specs.Doors.{roomFor}
+use Rattle.sweeps.proofs.DoorTests.{room-linked, room-alone}
 use Rattle.directions.specs.Plans.{straightPlan, stillPlan, rankedPlan, filterPlan, byRanks, spareOf, wholeArea, FrameOf}
 use Rattle.directions.proofs.ChoiceLaws.{filter-choice}
 use Rattle.directions.proofs.FilterLaws.{ranks-fit, still-few, straight-few}
@@ -64,6 +66,14 @@ roomy p room some few wide keys fit slim h =
       row = omega arith;
       keys = keys;
     }
+
+-- so much as a sweep asks for
+pub room-asked : (p : Plan) (room : ℕ) → Roomy p room → roomFor p ≤ room
+room-asked p room h =
+    elim (true-or-false (p .linked)) [
+      | inl e ↦ omega (arith, room-linked p e, h .pair e)
+      | inr e ↦ omega (arith, room-alone p e, h .alone)
+    ]
 
 -- ---- the plans of the filter
 

@@ -11,9 +11,9 @@ use Rattle.theory.proofs.Sides.{side}
 use Rattle.theory.proofs.Ends.{anywhere, from-below}
 use Rattle.frames.specs.Frames.{Framed, placeIn}
 use Rattle.frames.specs.declared.frame.Frame.{Frame}
-use Rattle.rows.specs.Plans.{startsAt}
-use Rattle.states.specs.Stacks.{Sequence}
-use Rattle.rows.specs.declared.plan.Plan.{Plan}
+use Rattle.plans.specs.Plans.{startsAt}
+use Rattle.sweeps.specs.Stacks.{Sequence}
+use Rattle.plans.specs.declared.plan.Plan.{Plan}
 use Rattle.directions.specs.Plans.{straightPlan, stillPlan, rankedPlan, wholeArea, AreaOf, spareOf, byRanks, filterPlan, filterStates}
 use Rattle.directions.specs.Numbers.{numberAt}
 use Rattle.theory.specs.Walks.{around}

@@ -11,7 +11,7 @@ use Rattle.frames.proofs.PlateSpots.{gate-zero}
 use Rattle.frames.specs.Frames.{placeIn, spot}
 use Rattle.frames.specs.declared.frame.Frame.{Frame}
 use Rattle.frames.proofs.FrameSpots.{spot-on, spot-left, spot-right}
-use Rattle.rows.specs.Rows.{gate, inRow}
+use Rattle.states.specs.Rows.{gate, inRow}
 use Rattle.directions.specs.Plans.{AreaOf}
 use Rattle.directions.specs.declared.plan.Area.{Area}
 

@@ -7,9 +7,9 @@ use mathlib.Core.Bool.{Bool, true, false}
 use native.Mathlib.Omega.{arith}
 use Rattle.frames.specs.Frames.{Framed, spot, past, onward}
 use Rattle.frames.specs.declared.frame.Frame.{Frame}
-use Rattle.rows.specs.Plans.{lineOf, orderOf, firstIn, pastIn, lineAt}
+use Rattle.plans.specs.Plans.{lineOf, orderOf, firstIn, pastIn, lineAt}
 use Rattle.states.specs.States.{rowBefore, lastBefore, seen, ahead, Grown}
-use Rattle.rows.specs.declared.plan.Plan.{Plan}
+use Rattle.plans.specs.declared.plan.Plan.{Plan}
 use Rattle.directions.specs.Plans.{stillPlan}
 use Rattle.directions.specs.Numbers.{numberAt}
 use Rattle.theory.specs.BestWalks.{reachFrom}

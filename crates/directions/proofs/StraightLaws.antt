@@ -6,9 +6,9 @@ use mathlib.Core.Bool.{Bool, true, false}
 use native.Mathlib.Omega.{arith}
 use Rattle.frames.specs.Frames.{Framed, spot, past, onward}
 use Rattle.frames.specs.declared.frame.Frame.{Frame}
-use Rattle.rows.specs.Plans.{lineOf, orderOf, firstIn, pastIn, lineAt, rowsIn}
+use Rattle.plans.specs.Plans.{lineOf, orderOf, firstIn, pastIn, lineAt, rowsIn}
 use Rattle.states.specs.States.{rowBefore, seen, ahead, Grown}
-use Rattle.rows.specs.declared.plan.Plan.{Plan}
+use Rattle.plans.specs.declared.plan.Plan.{Plan}
 use Rattle.directions.specs.Plans.{straightPlan, AreaOf}
 use Rattle.directions.specs.Numbers.{numberAt}
 use Rattle.directions.specs.declared.plan.Area.{Area}

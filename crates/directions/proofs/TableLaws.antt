@@ -2,30 +2,32 @@
 -- four directions, and for each of them everything computes.
 use Prim.Native.Nat.{ℕ, _≤_, _<_}
 use mathlib.Core.Path.{_≡_, refl, sym, subst, _∙_}
-use mathlib.Core.Bool.{Bool, true, false, cond, not, true≢false}
+use mathlib.Core.Bool.{Bool, true, false, cond, not, _&&_, true≢false}
 use native.Mathlib.Omega.{arith}
 use lib.Dec.{leb, eqb}
 use borrow.Author.Tests.{leb-true, leb-false, eq-eqb, ne-eqb}
 use Rattle.basics.proofs.Numbers.{below-four}
 use Rattle.plate.specs.Directions.{table, stepAt}
+use Rattle.plate.specs.Sizes.{GoodSize}
 use Rattle.frames.specs.Steps.{plusOne, biased, across, down}
 use Rattle.frames.specs.Frames.{Framed}
 use Rattle.frames.specs.declared.frame.Frame.{Frame}
-use Rattle.frames.proofs.PlateLines.{Sized, rows, columns}
+use Rattle.frames.proofs.PlateLines.{rows, columns}
 use Rattle.frames.proofs.FrameLaws.{framed-rows, framed-columns}
-use Rattle.rows.specs.declared.plan.Reach.{Reach}
+use Rattle.plans.specs.declared.plan.Reach.{Reach}
 use Rattle.directions.specs.Plans.{reachBy, reachIn, pixelsOn, linesOn, rowBy, byRows, FrameOf, Oriented}
+use Rattle.directions.specs.Doors.{frameOf}
 use Rattle.directions.specs.declared.plan.Course.{Course}
 
 -- ---- the frame
 
 -- the middle step of a diagonal changes column and row
-middle-diagonal : (index : ℕ) → index < 4 → cond (eqb (across index 1 false) 1) false (not (eqb (down index 1 false) 1)) ≡ leb 2 index
+middle-diagonal : (index : ℕ) → index < 4 → (not (eqb (across index 1 false) 1) && not (eqb (down index 1 false) 1)) ≡ leb 2 index
 unfolding across down biased plusOne stepAt table
 middle-diagonal =
-    below-four (λ (n : ℕ). cond (eqb (across n 1 false) 1) false (not (eqb (down n 1 false) 1)) ≡ leb 2 n) refl refl refl refl
+    below-four (λ (n : ℕ). (not (eqb (across n 1 false) 1) && not (eqb (down n 1 false) 1)) ≡ leb 2 n) refl refl refl refl
 
-module _ (W H : ℕ) (sized : Sized W H) where
+module _ (W H : ℕ) (sized : GoodSize W H) where
   -- the frame whose lines are rows, and the one whose lines are columns, as the middle step gives them
   abbrev rowsBy : ℕ → Frame
   rowsBy n = rows W H (eqb (down n 1 false) 2) (eqb (across n 1 false) 2) (leb 2 n)
@@ -108,27 +110,36 @@ module _ (W H : ℕ) (sized : Sized W H) where
             (λ z. (refl, refl, refl, refl)),
       ))
 
-  -- the same from the numbers that the code has read
-  module _ (index column row : ℕ) (diagonal : Bool) (known : index < 4) (is-column : column ≡ across index 1 false) (is-row : row ≡ down index 1 false)
-      (is-diagonal : diagonal ≡ cond (eqb column 1) false (not (eqb row 1))) where
-    told : diagonal ≡ leb 2 index
-    told = is-diagonal ∙ rw (is-column, is-row) (middle-diagonal index known)
+  pub frame-known : (index : ℕ) → index < 4 → Framed (frameOf W H index) W H index × FrameOf (frameOf W H index) W H index
+  unfolding frameOf
+  frame-known index known = go (byRows W H index) refl
+    where
+      go : (b : Bool) → byRows W H index ≡ b → Framed (frameOf W H index) W H index × FrameOf (frameOf W H index) W H index
+      go true e = rw (e, middle-diagonal index known) (rows-frame index known e)
+      go false e = rw (e, middle-diagonal index known) (columns-frame index known e)
 
-    pub frame-by-rows : byRows W H index ≡ true →
-        Framed (rows W H (eqb row 2) (eqb column 2) diagonal) W H index × FrameOf (rows W H (eqb row 2) (eqb column 2) diagonal) W H index
-    frame-by-rows e = rw (told, is-column, is-row) (rows-frame index known e)
+  -- the same of a frame that is it
+  pub frame-told : (r : Frame) (index : ℕ) → index < 4 → r ≡ frameOf W H index → Framed r W H index × FrameOf r W H index
+  frame-told r index known e = rw e (frame-known index known)
 
-    pub frame-by-columns : byRows W H index ≡ false →
-        Framed (columns W H (eqb column 2) (eqb row 2) diagonal) W H index × FrameOf (columns W H (eqb column 2) (eqb row 2) diagonal) W H index
-    frame-by-columns e = rw (told, is-column, is-row) (columns-frame index known e)
+-- the frame by the numbers that the code has read
+module _ (W H index column row : ℕ) (diagonal : Bool) (is-column : column ≡ across index 1 false) (is-row : row ≡ down index 1 false)
+    (is-diagonal : diagonal ≡ (not (eqb column 1) && not (eqb row 1))) where
+  pub frame-by-rows : byRows W H index ≡ true → rows W H (eqb row 2) (eqb column 2) diagonal ≡ frameOf W H index
+  unfolding frameOf
+  frame-by-rows e = rw (e, is-diagonal, is-column, is-row) refl
+
+  pub frame-by-columns : byRows W H index ≡ false → columns W H (eqb column 2) (eqb row 2) diagonal ≡ frameOf W H index
+  unfolding frameOf
+  frame-by-columns e = rw (e, is-diagonal, is-column, is-row) refl
 
 -- a step that changes both, as the code tests it
 pub changes-both : (diagonal : Bool) (column row : ℕ) → (column ≡ 1 → ⊥) → diagonal ≡ not (eqb row 1) →
-    diagonal ≡ cond (eqb column 1) false (not (eqb row 1))
+    diagonal ≡ (not (eqb column 1) && not (eqb row 1))
 changes-both diagonal column row n e = rw (ne-eqb column 1 n) e
 
 pub changes-one : (diagonal : Bool) (column row : ℕ) → column ≡ 1 → diagonal ≡ not (eqb column 1) →
-    diagonal ≡ cond (eqb column 1) false (not (eqb row 1))
+    diagonal ≡ (not (eqb column 1) && not (eqb row 1))
 changes-one diagonal column row n e = e ∙ rw (eq-eqb column 1 n)
 
 -- ---- where the steps find their numbers

@@ -7,7 +7,7 @@ use native.Mathlib.Omega.{arith}
 use Rattle.frames.specs.Frames.{spot, past, onward}
 use Rattle.frames.specs.declared.frame.Frame.{Frame}
 use Rattle.frames.proofs.FrameSpots.{onward-straight, onward-diagonal}
-use Rattle.rows.specs.declared.plan.Reach.{Reach}
+use Rattle.plans.specs.declared.plan.Reach.{Reach}
 use Rattle.directions.specs.Plans.{straightReach, diagonalReach}
 
 -- the greatest of three numbers that are told by row and pixel

@@ -1,4 +1,4 @@
--- The plans of a trace are sound, their states follow each other as `reachFrom` does for the walks to the picked pixel alone, and they find room: a
+-- The plans of a trace are well-formed, their states follow each other as `reachFrom` does for the walks to the picked pixel alone, and they find room: a
 -- trace has one of two kinds of plans, and what is known of each kind is told of the one that it has. Off the area of a trace, and too far on it, there
 -- are no walks to the picked pixel.
 use Prim.Native.Nat.{ℕ, _+_, _-_, _*_, _^_, _≤_, _<_, min}
@@ -10,9 +10,10 @@ use native.Mathlib.Omega.{arith}
 use lib.Dec.{eqb}
 use Rattle.frames.specs.Frames.{placeIn, Bounded, Framed}
 use Rattle.frames.specs.declared.frame.Frame.{Frame}
-use Rattle.rows.specs.Plans.{lineAt, rowLo, rowHi, rowAt, rowsIn, halfOf, stateSize, keysSize, Sound}
-use Rattle.states.specs.Stacks.{Sequence}
-use Rattle.rows.specs.declared.plan.Plan.{Plan}
+use Rattle.plans.specs.Plans.{lineAt, rowLo, rowHi, rowAt, rowsIn, halfOf, stateSize, keysSize}
+use Rattle.plans.specs.Forms.{wellFormed}
+use Rattle.sweeps.specs.Stacks.{Sequence}
+use Rattle.plans.specs.declared.plan.Plan.{Plan}
 use Rattle.directions.specs.Numbers.{stepsAt, pixelIn, numberAt, placeKept}
 use Rattle.directions.specs.Plans.{straightPlan, rankedPlan, AreaOf, FrameOf}
 use Rattle.directions.specs.Traces.{traceArea, tracePlan, traceStates, SpotOf}
@@ -21,9 +22,8 @@ use Rattle.theory.specs.BestWalks.{reachFrom}
 use Rattle.theory.specs.Walks.{around}
 use Rattle.directions.proofs.GrownLaws.{Keyed, StartsBy}
 use Rattle.directions.proofs.KeptLaws.{RowOn, PlanOn, kept-on, kept-inside, sized-straight, sized-ranked, on-straight, on-ranked}
-use Rattle.directions.proofs.PlanLaws.{straight-sound}
+use Rattle.directions.proofs.PlanForms.{straight-formed, ranked-formed}
 use Rattle.directions.proofs.RankedLaws.{roomIn, ranked-grown}
-use Rattle.directions.proofs.RankedPlans.{ranked-sound}
 use Rattle.directions.proofs.RoomLaws.{Roomy, roomy}
 use Rattle.directions.proofs.SpotRows.{InArea, Beside}
 use Rattle.directions.proofs.StraightLaws.{straight-grown}
@@ -142,13 +142,13 @@ module _ (r : Frame) (W H index : ℕ) (F : Framed r W H index) where
     abbrev area : AreaOf r (traceArea r back s)
     area = trace-area r back s x S
 
-    pub trace-sound : 1 ≤ L → L ≤ 1024 → 1 ≤ planes → planes ≤ 9 → Sound (tracePlan r by-rows back L planes s)
-    trace-sound some few some-planes few-planes =
+    pub trace-formed : 1 ≤ L → L ≤ 1024 → 1 ≤ planes → planes ≤ 9 → wellFormed (tracePlan r by-rows back L planes s) ≡ true
+    trace-formed some few some-planes few-planes =
         let b : Bounded r = F .bounded in
-        trace-choice r by-rows back L planes s (λ (p : Plan) (n : ℕ). Sound p)
-        (λ d. ranked-sound r by-rows back (traceArea r back s) (rankRows r back L s) planes b area (O .slim d) (rank-rows r back L s area some .0)
+        trace-choice r by-rows back L planes s (λ (p : Plan) (n : ℕ). wellFormed p ≡ true)
+        (λ d. ranked-formed r by-rows back (traceArea r back s) (rankRows r back L s) planes b area (O .slim d) (rank-rows r back L s area some .0)
         (omega arith) some-planes few-planes)
-        (λ d. straight-sound r back (traceArea r back s) (lineRows r back L s) planes b area (line-rows r back L s area some .0) (omega arith)
+        (λ d. straight-formed r back (traceArea r back s) (lineRows r back L s) planes b area (line-rows r back L s area some .0) (omega arith)
         some-planes few-planes)
 
     pub trace-room : 1 ≤ planes → planes ≤ 9 → 1 ≤ L → (room : ℕ) → 4 * planes * (r .lines * r .across) ≤ room →

@@ -2,3 +2,4 @@ pub mod Plans
 pub mod Numbers
 pub mod Gathering
 pub mod Traces
+pub mod Doors

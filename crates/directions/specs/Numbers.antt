@@ -11,8 +11,8 @@ use Rattle.plate.specs.Opening.{levelAt}
 use Rattle.frames.specs.Keys.{keyBy}
 use Rattle.frames.specs.Frames.{placeIn, Bounded}
 use Rattle.frames.specs.declared.frame.Frame.{Frame}
-use Rattle.rows.specs.Plans.{lineAt}
-use Rattle.rows.specs.declared.plan.Plan.{Plan}
+use Rattle.plans.specs.Plans.{lineAt}
+use Rattle.plans.specs.declared.plan.Plan.{Plan}
 use Rattle.theory.specs.BestWalks.{reachFrom}
 
 -- the steps of the walks of row m of state e

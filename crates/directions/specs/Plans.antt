@@ -4,8 +4,8 @@ use mathlib.Core.Path.{_≡_}
 use mathlib.Core.Bool.{Bool, true, false, cond, not, _&&_}
 use lib.Dec.{leb, eqb}
 use Rattle.frames.specs.declared.frame.Frame.{Frame}
-use Rattle.rows.specs.declared.plan.Plan.{Plan}
-use Rattle.rows.specs.declared.plan.Reach.{Reach}
+use Rattle.plans.specs.declared.plan.Plan.{Plan}
+use Rattle.plans.specs.declared.plan.Reach.{Reach}
 use Rattle.directions.specs.declared.plan.Area.{Area}
 use Rattle.directions.specs.declared.plan.Course.{Course}
 use Rattle.frames.specs.Steps.{across, down}

@@ -1,21 +1,24 @@
 // A whole direction of the filter.
 ghost use mathlib.Core.Path.{_≡_};
-ghost use Prim.Native.Nat.{_+_, _-_, _*_, _^_, _≤_, _<_};
+ghost use mathlib.Core.Bool.{true};
+ghost use Prim.Native.Nat.{_-_, _*_};
 ghost use lib.ListN.{length};
-ghost use Rattle.plate.specs.Paths.{span};
+ghost use Rattle.basics.specs.Cases.{either};
 ghost use Rattle.directions.specs.Gathering.{Raised, bestOf};
+ghost use Rattle.directions.specs.Doors.{opens};
+use crate::fits::opens_plate;
 use crate::frame::by_rows;
 use crate::frame::frame_of;
 use crate::gather::raise;
 use crate::keys::fill_keys;
 use crate::plan::Course;
 use crate::plan::filter_plan;
-use crate::plan::filter_states;
+use crate::plan::reach_of;
 use plate::Setting;
 
-// Raises each level of the result to the best walk of the direction through its pixel. It takes 172 KB of
-// stack, most of it the best numbers of the plate's pixels.
-pub fn open_direction(
+// Raises each level of the result to the best walk of the direction through its pixel. The best
+// numbers of the plate's pixels take 128 KB of stack, and the sweep 39 KB.
+fn raise_all(
     result: &mut [i16],
     work: &mut [u16],
     plate: &[i16],
@@ -24,9 +27,7 @@ pub fn open_direction(
     setting: Setting,
     index: usize,
 )
-    requires { ⌜ (1 ≤ width) × (width ≤ 1024) × (1 ≤ height) × (height ≤ 1024) × (width * height ≤ 65536) × (index < 4) × (setting .gaps ≤ 8) ⌝ }
-    requires { ⌜ (1 ≤ setting .length) × (setting .length ≤ 1024) × (setting .length ≤ span width height (2 ^ index)) ⌝ }
-    requires { ⌜ (length (now plate) ≡ width * height) × (length (now result) ≡ width * height) × (4 * (setting .gaps + 1) * (width * height) ≤ length (now work)) ⌝ }
+    requires { ⌜ opens width height setting index (length (now plate)) (length (now result)) (length (now work)) ≡ true ⌝ }
     ensures { λ _. ⌜ Raised (bestOf width height index (setting .mode) (setting .length - 1) (setting .gaps) (now (plate .entry))) (now (result .entry)) (now (result .exit)) 0 (width * height) ⌝ }
 {
     let frame = frame_of(width, height, index);
@@ -42,12 +43,38 @@ pub fn open_direction(
         back: true,
     };
     let plan = filter_plan(frame, on, setting.length, setting.gaps + 1);
-    let other = filter_plan(frame, back, setting.length, setting.gaps + 1);
-    let states = filter_states(frame, setting.length);
+    let reach = reach_of(frame, back, plan.ranked);
     let mut best = [0u16; 65536];
-    let mut held = [0u16; 18612];
-    let mut below = [0u16; 1032];
     fill_keys(work, plate, frame, plan.ranked, setting.mode);
-    states::sweep(&mut best, work, &mut held, &mut below, plan, other, states);
+    sweeps::sweep(&mut best, work, plan, reach);
     raise(result, &best, frame, plan.ranked);
+}
+
+// The same, and true, where the plate has paths of the setting's length in the direction at this index and
+// the lent buffers have the lengths that are asked; else false, and nothing is written.
+pub fn open_direction(
+    result: &mut [i16],
+    work: &mut [u16],
+    plate: &[i16],
+    width: usize,
+    height: usize,
+    setting: Setting,
+    index: usize,
+) -> bool
+    ensures { λ r. ⌜ r ≡ opens width height setting index (length (now (plate .entry))) (length (now (result .entry))) (length (now (work .entry))) ⌝ }
+    ensures { λ r. ⌜ either r (Raised (bestOf width height index (setting .mode) (setting .length - 1) (setting .gaps) (now (plate .entry))) (now (result .entry)) (now (result .exit)) 0 (width * height)) ((now (result .exit) ≡ now (result .entry)) × (now (work .exit) ≡ now (work .entry))) ⌝ }
+{
+    if !opens_plate(
+        width,
+        height,
+        setting,
+        index,
+        plate.len(),
+        result.len(),
+        work.len(),
+    ) {
+        return false;
+    }
+    raise_all(result, work, plate, width, height, setting, index);
+    true
 }

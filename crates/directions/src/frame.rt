@@ -3,11 +3,12 @@
 // one pixel back on the same line, or both. Which, and how the lines are counted, is read off the
 // direction's middle step in the table.
 ghost use mathlib.Core.Path.{_≡_};
-ghost use Prim.Native.Nat.{_*_, _≤_, _<_};
-ghost use Rattle.frames.specs.Frames.{Framed};
+ghost use Prim.Native.Nat.{_*_, _<_};
+ghost use Rattle.plate.specs.Sizes.{GoodSize};
+ghost use Rattle.frames.specs.Frames.{Bounded, placeIn};
 ghost use Rattle.frames.specs.Frames.{turned as turnedIn};
-ghost use Rattle.directions.specs.Plans.{FrameOf, byRows};
-ghost use Rattle.directions.specs.Traces.{SpotOf};
+ghost use Rattle.directions.specs.Plans.{byRows};
+ghost use Rattle.directions.specs.Doors.{frameOf, spotOf};
 use frames::Frame;
 
 // A pixel of a frame.
@@ -18,7 +19,7 @@ pub struct Spot {
 
 // Whether the lines are rows of the plate: they are where the middle step changes the row alone; on the
 // diagonals the shorter of the two are lines.
-pub fn by_rows(width: usize, height: usize, index: usize) -> bool
+pub(crate) fn by_rows(width: usize, height: usize, index: usize) -> bool
     ensures { λ r. ⌜ r ≡ byRows width height index ⌝ }
 {
     if frames::columns_on(index, 1, false) == 1 {
@@ -31,9 +32,8 @@ pub fn by_rows(width: usize, height: usize, index: usize) -> bool
 }
 
 // The frame of the direction at this index of the step table.
-pub fn frame_of(width: usize, height: usize, index: usize) -> Frame
-    requires { ⌜ (1 ≤ width) × (width ≤ 1024) × (1 ≤ height) × (height ≤ 1024) × (width * height ≤ 65536) × (index < 4) ⌝ }
-    ensures { λ r. ⌜ (Framed r width height index) × (FrameOf r width height index) ⌝ }
+pub(crate) fn frame_of(width: usize, height: usize, index: usize) -> Frame
+    ensures { λ r. ⌜ r ≡ frameOf width height index ⌝ }
 {
     // the middle step's changes plus one
     let column = frames::columns_on(index, 1, false);
@@ -69,13 +69,24 @@ fn turned(last: bool, n: usize, i: usize) -> usize
     if last { n - 1 - i } else { i }
 }
 
-// Where the pixel at a place stands in the frame of this direction.
-pub fn spot_of(width: usize, height: usize, index: usize, frame: Frame, place: usize) -> Spot
-    requires { ⌜ (Framed frame width height index) × (FrameOf frame width height index) × (place < width * height) ⌝ }
-    ensures { λ r. ⌜ SpotOf frame r place ⌝ }
+// The place on the plate of a pixel of a line.
+pub(crate) fn place(frame: Frame, line: usize, pixel: usize) -> usize
+    requires { ⌜ Bounded frame ⌝ }
+    requires { ⌜ (line < frame .lines) × (pixel < frame .across) ⌝ }
+    ensures { λ r. ⌜ r ≡ placeIn frame line pixel ⌝ }
 {
-    let column = place % width;
-    let row = place / width;
+    let i = turned(frame.flipped, frame.lines, line);
+    let x = turned(frame.mirrored, frame.across, pixel);
+    i * frame.leap + x * frame.hop
+}
+
+// Where the pixel at a place stands in the frame of this direction.
+pub(crate) fn spot_of(width: usize, height: usize, index: usize, frame: Frame, at: usize) -> Spot
+    requires { ⌜ (GoodSize width height) × (index < 4) × (frame ≡ frameOf width height index) × (at < width * height) ⌝ }
+    ensures { λ r. ⌜ r ≡ spotOf width height index at ⌝ }
+{
+    let column = at % width;
+    let row = at / width;
     if by_rows(width, height, index) {
         return Spot {
             line: turned(frame.flipped, frame.lines, row),

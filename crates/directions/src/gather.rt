@@ -5,6 +5,7 @@ ghost use lib.ListN.{length};
 ghost use Rattle.plate.specs.Levels.{key};
 ghost use Rattle.directions.specs.Numbers.{KeptOn};
 ghost use Rattle.directions.specs.Gathering.{Risen};
+use crate::frame::place;
 use crate::keys::line_kept;
 use frames::Frame;
 
@@ -12,7 +13,7 @@ use frames::Frame;
 fn raised(v: i16, k: u16) -> i16
     ensures { λ r. ⌜ key r ≡ max (key v) k ⌝ }
 {
-    plate::level_of(rows::max2(plate::key_of(v), k))
+    plate::level_of(states::max2(plate::key_of(v), k))
 }
 
 // The levels of a row of numbers rise to them.
@@ -24,14 +25,14 @@ fn raise_row(result: &mut [i16], best: &[u16], frame: Frame, ranked: bool, row: 
     let mut x = 0;
     while x < frame.across {
         let line = line_kept(frame, ranked, row, x);
-        let p = frames::place(frame, line, x);
+        let p = place(frame, line, x);
         result[p] = raised(result[p], best[at + x]);
         x += 1;
     }
 }
 
 // All of them.
-pub fn raise(result: &mut [i16], best: &[u16], frame: Frame, ranked: bool)
+pub(crate) fn raise(result: &mut [i16], best: &[u16], frame: Frame, ranked: bool)
     requires { ⌜ KeptOn frame ranked ⌝ }
     requires { ⌜ (frame .lines * frame .across ≤ length (now best)) × (length (now result) ≡ frame .lines * frame .across) ⌝ }
     ensures { λ _. ⌜ Risen frame ranked (now (best .entry)) (now (result .entry)) (now (result .exit)) 0 (frame .lines * frame .across) ⌝ }

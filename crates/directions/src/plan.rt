@@ -3,12 +3,12 @@
 ghost use mathlib.Core.Path.{_≡_};
 ghost use mathlib.Core.Bool.{true, false, cond};
 ghost use Prim.Native.Nat.{_+_, _-_, _≤_, _<_, min};
-ghost use Rattle.directions.specs.Plans.{Oriented, AreaOf, pixelsOn, linesOn, rowBy, reachIn, straightPlan, stillPlan, rankedPlan, filterPlan, filterStates, byRanks, spareOf};
+ghost use Rattle.directions.specs.Plans.{Oriented, AreaOf, pixelsOn, linesOn, rowBy, reachIn, straightPlan, stillPlan, rankedPlan, filterPlan, byRanks, spareOf};
 ghost use Rattle.directions.specs.Traces.{traceArea, tracePlan, traceStates};
 use crate::frame::Spot;
 use frames::Frame;
-use rows::Plan;
-use rows::Reach;
+use plans::Plan;
+use plans::Reach;
 
 // The lines from `top` below `bottom` and the pixels from `left` below `right`; and where a walk may start:
 // at one pixel alone, or at all.
@@ -73,7 +73,7 @@ fn row_by(frame: Frame, course: Course, ranked: bool, number: usize) -> usize
 }
 
 // Where the three steps of the table find their numbers.
-fn reach_of(frame: Frame, course: Course, ranked: bool) -> Reach
+pub(crate) fn reach_of(frame: Frame, course: Course, ranked: bool) -> Reach
     requires { ⌜ Oriented frame course ⌝ }
     ensures { λ r. ⌜ r ≡ reachIn frame (course .rows) ranked (course .back) ⌝ }
 {
@@ -234,21 +234,6 @@ pub(crate) fn filter_plan(frame: Frame, course: Course, length: usize, planes: u
     still_plan(frame, course, length, planes)
 }
 
-// How many states the filter's sweeps have.
-pub(crate) fn filter_states(frame: Frame, length: usize) -> usize
-    requires { ⌜ (1 ≤ frame .across) × (frame .lines ≤ 1024) × (frame .across ≤ 1024) ⌝ }
-    requires { ⌜ (length ≤ 1024) × (length ≤ frame .lines + cond (frame .diagonal) (frame .across - 1) 0) ⌝ }
-    ensures { λ r. ⌜ r ≡ filterStates frame length ⌝ }
-{
-    if !frame.diagonal {
-        return spare_of(frame, length) + 1;
-    }
-    if by_ranks(frame, length) {
-        return length;
-    }
-    frame.lines
-}
-
 // The lesser of two.
 fn least(a: usize, b: usize) -> usize
     ensures { λ r. ⌜ r ≡ min a b ⌝ }
@@ -282,7 +267,13 @@ fn trace_area(frame: Frame, back: bool, spot: Spot) -> Area
 }
 
 // The plan of one side of a trace.
-pub fn trace_plan(frame: Frame, course: Course, length: usize, planes: usize, spot: Spot) -> Plan
+pub(crate) fn trace_plan(
+    frame: Frame,
+    course: Course,
+    length: usize,
+    planes: usize,
+    spot: Spot,
+) -> Plan
     requires { ⌜ (Oriented frame course) × (frame .lines ≤ 1024) × (frame .across ≤ 1024) × (spot .line < frame .lines) × (spot .pixel < frame .across) ⌝ }
     ensures { λ r. ⌜ r ≡ tracePlan frame (course .rows) (course .back) length planes spot ⌝ }
 {
@@ -296,7 +287,7 @@ pub fn trace_plan(frame: Frame, course: Course, length: usize, planes: usize, sp
 }
 
 // How many states one side of a trace has.
-pub fn trace_states(frame: Frame, back: bool, length: usize, spot: Spot) -> usize
+pub(crate) fn trace_states(frame: Frame, back: bool, length: usize, spot: Spot) -> usize
     requires { ⌜ (frame .lines ≤ 1024) × (frame .across ≤ 1024) × (spot .line < frame .lines) × (spot .pixel < frame .across) ⌝ }
     ensures { λ r. ⌜ r ≡ traceStates frame back length spot ⌝ }
 {

@@ -1,15 +1,16 @@
 -- From the directions to the whole plate: what a direction adds, and what all of them do, or as many as it takes for every level to reach the pixel's
 -- own.
 use Prim.Native.Nat.{ℕ, suc, _+_, _-_, _*_, _/_, _%_, _^_, _≤_, _<_, max}
-use mathlib.Core.Path.{_≡_, refl, ap, subst}
-use mathlib.Core.Bool.{Bool, true, cond}
+use mathlib.Core.Path.{_≡_, refl, sym, ap, subst, _∙_}
+use mathlib.Core.Bool.{Bool, true, false, cond, true≢false}
 use mathlib.Core.List.{List, [], _∷_, _++_}
-use mathlib.Core.Logic.{⊎-elim}
+use mathlib.Core.Logic.{inl, inr, ⊎-elim}
 use native.Mathlib.Numerals.{add-one}
 use native.Mathlib.Omega.{arith}
 use borrow.Author.Tests.{eq-eqb, ne-eqb}
 use lib.ListN.{length, take}
 use lib.IntN.{ℤ}
+use Rattle.basics.specs.Cases.{either}
 use Rattle.basics.specs.Lists.{keep}
 use Rattle.basics.proofs.Numbers.{le-or-lt, below-four}
 use Rattle.basics.proofs.Tests.{true-or-false}
@@ -23,6 +24,8 @@ use Rattle.theory.proofs.Span.{walk-fits}
 use Rattle.theory.proofs.Terms.{across-none}
 use Rattle.frames.specs.Keys.{keyBy}
 use Rattle.directions.specs.Gathering.{Raised, bestOf}
+use Rattle.directions.specs.Doors.{opens}
+use Rattle.directions.proofs.DoorLaws.{opens-if}
 use Rattle.engine.specs.Finishing.{Accepted, Complete, Gathered, bestIn, bestIfChosen, bestOfAll}
 use Rattle.theory.specs.BestWalks.{keyAt, best}
 use Rattle.theory.specs.Walks.{around}
@@ -65,6 +68,31 @@ module _ (W H : ℕ) (s : Setting) (plate : List ℤ) (index : ℕ) (known : ind
   too-short old =
       raised-to-nothing (bestIfChosen W H s plate (2 ^ index)) old 0 (W * H)
       (λ x a b. ⊎-elim (λ e. rw e (no-path x b)) (λ e. rw e) (true-or-false (member (s .directions) (2 ^ index))))
+
+-- ---- a chosen direction: it is opened unless its paths are too short
+
+too-long : (W H : ℕ) (s : Setting) (index plate result work : ℕ) → Accepted W H s plate result work → index < 4 →
+    false ≡ opens W H s index plate result work → span W H (2 ^ index) < s .length
+too-long W H s index plate result work p known e =
+    elim (le-or-lt (s .length) (span W H (2 ^ index))) [
+      | inl h ↦ absurd (true≢false (sym (opens-if W H s index plate result work (record {
+        fitting = record { size = p .size; known = known; some = p .long; few = p .short; few-gaps = p .few-gaps; long = h };
+        plate-size = p .plate-size;
+        result-size = p .result-size;
+        work-size = p .work-size;
+      })) ∙ sym e))
+      | inr h ↦ h
+    ]
+
+pub chosen-opened :
+    (W H : ℕ) (s : Setting) (index : ℕ) (plate old new : List ℤ) (work work′ : List ℕ) (r : Bool) →
+    Accepted W H s (length plate) (length old) (length work) → index < 4 → member (s .directions) (2 ^ index) ≡ true →
+    r ≡ opens W H s index (length plate) (length old) (length work) →
+    either r (Raised (bestOf W H index (s .mode) (s .length - 1) (s .gaps) plate) old new 0 (W * H)) ((new ≡ old) × (work′ ≡ work)) →
+    Raised (bestIfChosen W H s plate (2 ^ index)) old new 0 (W * H)
+chosen-opened W H s index plate old new work work′ true p known is-chosen e h = chosen-best W H s index plate old new is-chosen h
+chosen-opened W H s index plate old new work work′ false p known is-chosen e h =
+    rw (h .0) (too-short W H s plate index known (too-long W H s index (length plate) (length old) (length work) p known e) old)
 
 -- ---- the directions one after the other, as far as an index of the table
 

@@ -23,7 +23,7 @@ fn finished(mode: usize, own: i16, best: i16) -> i16
 {
     frames::level_by(
         mode,
-        rows::min2(frames::key_by(mode, own), plate::key_of(best)),
+        states::min2(frames::key_by(mode, own), plate::key_of(best)),
     )
 }
 

@@ -10,7 +10,8 @@ use crate::finish::blank;
 use crate::finish::finish;
 use plate::Setting;
 
-// The direction at this index, if it is chosen and its paths are long enough; else there is no path.
+// The direction at this index, if it is chosen. Where its paths are too short nothing is raised: there is no
+// path.
 fn open_if_chosen(
     result: &mut [i16],
     work: &mut [u16],
@@ -26,9 +27,6 @@ fn open_if_chosen(
     ensures { λ _. ⌜ Raised (bestIfChosen width height setting (now (plate .entry)) (2 ^ index)) (now (result .entry)) (now (result .exit)) 0 (width * height) ⌝ }
 {
     if setting.directions / bit % 2 != 1 {
-        return;
-    }
-    if plate::span_of(width, height, index) < setting.length {
         return;
     }
     directions::open_direction(result, work, plate, width, height, setting, index);

@@ -9,11 +9,12 @@ use lib.Dec.{eqb, leb}
 use Rattle.basics.proofs.Numbers.{below-four}
 use Rattle.plate.specs.Directions.{table, stepAt}
 use Rattle.plate.specs.Paths.{span}
+use Rattle.plate.specs.Sizes.{GoodSize}
 use Rattle.frames.specs.Steps.{plusOne, biased, across, down}
 use Rattle.frames.specs.Frames.{turned, spot, past, onward, Framed}
 use Rattle.frames.specs.declared.frame.Frame.{Frame}
 use Rattle.theory.specs.Ranks.{rankAt}
-use Rattle.frames.proofs.PlateLines.{Sized, three, rows, rows-bounded, rows-on, rows-whole, rows-near, rows-rank, columns, columns-bounded, columns-on, columns-whole, columns-near, columns-rank}
+use Rattle.frames.proofs.PlateLines.{three, rows, rows-bounded, rows-on, rows-whole, rows-near, rows-rank, columns, columns-bounded, columns-on, columns-whole, columns-near, columns-rank}
 
 -- how far a step goes on to the next line or pixel, plus one
 abbrev beyond : Bool → ℕ
@@ -48,7 +49,7 @@ room-left :
 room-left true n m i x h k = omega arith
 room-left false n m i x h k = omega arith
 
-module _ (W H : ℕ) (sized : Sized W H) (flipped mirrored diagonal : Bool) (index : ℕ) (known : index < 4) where
+module _ (W H : ℕ) (sized : GoodSize W H) (flipped mirrored diagonal : Bool) (index : ℕ) (known : index < 4) where
   rows-framed :
       ((f : ℕ → ℕ) (back : Bool) (i x : ℕ) →
       three (λ n. spot f (rows W H flipped mirrored diagonal) (i + turned flipped 3 (down index n back)) (x + turned mirrored 3 (across index n back)))
@@ -87,7 +88,7 @@ module _ (W H : ℕ) (sized : Sized W H) (flipped mirrored diagonal : Bool) (ind
 
 -- ---- the six frames
 
-module _ (W H : ℕ) (sized : Sized W H) where
+module _ (W H : ℕ) (sized : GoodSize W H) where
   north-rows : Framed (rows W H false false false) W H 0
   unfolding turned across down biased plusOne stepAt table rankAt span
   north-rows =
@@ -97,7 +98,7 @@ module _ (W H : ℕ) (sized : Sized W H) where
         | false ↦ omega (arith, straight-onward f (rows W H false false false) false i x refl)
       ])
       (λ i x h k. omega arith)
-      (omega (arith, sized .some-columns))
+      (omega (arith, sized .wide))
 
   east-columns : Framed (columns W H true false false) W H 1
   unfolding turned across down biased plusOne stepAt table rankAt span
@@ -108,7 +109,7 @@ module _ (W H : ℕ) (sized : Sized W H) where
         | false ↦ omega (arith, straight-onward f (columns W H true false false) false i x refl)
       ])
       (λ i x h k. omega arith)
-      (omega (arith, sized .some-rows))
+      (omega (arith, sized .high))
 
   north-east-rows : Framed (rows W H false true true) W H 2
   unfolding turned across down biased plusOne stepAt table rankAt span
@@ -119,7 +120,7 @@ module _ (W H : ℕ) (sized : Sized W H) where
         | false ↦ omega (arith, diagonal-onward f (rows W H false true true) false i x refl)
       ])
       (λ i x h k. omega arith)
-      (omega (arith, sized .some-columns))
+      (omega (arith, sized .wide))
 
   north-east-columns : Framed (columns W H true false true) W H 2
   unfolding turned across down biased plusOne stepAt table rankAt span
@@ -130,7 +131,7 @@ module _ (W H : ℕ) (sized : Sized W H) where
         | false ↦ omega (arith, diagonal-onward f (columns W H true false true) false i x refl)
       ])
       (λ i x h k. omega arith)
-      (omega (arith, sized .some-rows))
+      (omega (arith, sized .high))
 
   south-east-rows : Framed (rows W H true true true) W H 3
   unfolding turned across down biased plusOne stepAt table rankAt span
@@ -141,7 +142,7 @@ module _ (W H : ℕ) (sized : Sized W H) where
         | false ↦ omega (arith, diagonal-onward f (rows W H true true true) false i x refl)
       ])
       (λ i x h k. omega arith)
-      (omega (arith, sized .some-columns))
+      (omega (arith, sized .wide))
 
   south-east-columns : Framed (columns W H true true true) W H 3
   unfolding turned across down biased plusOne stepAt table rankAt span
@@ -152,7 +153,7 @@ module _ (W H : ℕ) (sized : Sized W H) where
         | false ↦ omega (arith, diagonal-onward f (columns W H true true true) false i x refl)
       ])
       (λ i x h k. omega arith)
-      (omega (arith, sized .some-rows))
+      (omega (arith, sized .high))
 
   -- ---- the frame of a direction, as `frame_of` makes it
 

@@ -8,6 +8,7 @@ use native.Mathlib.Omega.{arith}
 use lib.Arith.{digits-lt, digits-div, digits-mod}
 use lib.IntN.{ℤ, pos, negsuc}
 use Rattle.plate.specs.Directions.{stepAt}
+use Rattle.plate.specs.Sizes.{GoodSize}
 use Rattle.theory.proofs.Steps.{column-below, row-below}
 use Rattle.frames.specs.Steps.{plusOne, biased, across, down}
 use Rattle.frames.proofs.PlateSpots.{plateSpot}
@@ -18,14 +19,6 @@ use Rattle.theory.specs.BestWalks.{best}
 use Rattle.theory.specs.Ranks.{rank, rankAt}
 use Rattle.theory.specs.Walks.{around}
 use Rattle.frames.proofs.SpotLaws.{turned-below, turned-twice, turned-step, rowsFrame, columnsFrame, rows-place, columns-place, rows-spot, columns-spot}
-
--- the sizes of a plate
-pub record Sized (W H : ℕ) : Type 0 where
-  pub some-columns : 1 ≤ W
-  pub few-columns : W ≤ 1024
-  pub some-rows : 1 ≤ H
-  pub few-rows : H ≤ 1024
-  pub few-pixels : W * H ≤ 65536
 
 -- ---- a place with its row and column
 
@@ -89,16 +82,16 @@ module _ (W H : ℕ) (flipped mirrored diagonal : Bool) where
       lies-at W H (placeIn rows i x) (turned flipped H i) (turned mirrored W x) (rows-place W H flipped mirrored diagonal i x)
       (turned-below flipped H i h) (turned-below mirrored W x k)
 
-  pub rows-bounded : Sized W H → Bounded rows
+  pub rows-bounded : GoodSize W H → Bounded rows
   rows-bounded s =
       record {
-        some-lines = s .some-rows;
-        few-lines = s .few-rows;
-        some-across = s .some-columns;
-        few-across = s .few-columns;
-        near-lines = s .few-columns;
+        some-lines = s .high;
+        few-lines = s .low;
+        some-across = s .wide;
+        few-across = s .narrow;
+        near-lines = s .narrow;
         near-pixels = omega arith;
-        few-pixels = omega (arith, s .few-pixels);
+        few-pixels = omega (arith, s .few);
       }
 
   pub rows-on : (i x : ℕ) → i < H → x < W → placeIn rows i x < W * H
@@ -152,16 +145,16 @@ module _ (W H : ℕ) (flipped mirrored diagonal : Bool) where
       lies-at W H (placeIn columns i x) (turned mirrored H x) (turned flipped W i) (columns-place W H flipped mirrored diagonal i x)
       (turned-below mirrored H x k) (turned-below flipped W i h)
 
-  pub columns-bounded : Sized W H → Bounded columns
+  pub columns-bounded : GoodSize W H → Bounded columns
   columns-bounded s =
       record {
-        some-lines = s .some-columns;
-        few-lines = s .few-columns;
-        some-across = s .some-rows;
-        few-across = s .few-rows;
+        some-lines = s .wide;
+        few-lines = s .narrow;
+        some-across = s .high;
+        few-across = s .low;
         near-lines = omega arith;
-        near-pixels = s .few-columns;
-        few-pixels = s .few-pixels;
+        near-pixels = s .narrow;
+        few-pixels = s .few;
       }
 
   pub columns-on : (i x : ℕ) → i < W → x < H → placeIn columns i x < W * H

@@ -5,7 +5,6 @@ mod keys;
 mod steps;
 
 pub use frame::Frame;
-pub use frame::place;
 pub use keys::key_by;
 pub use keys::level_by;
 pub use steps::columns_on;

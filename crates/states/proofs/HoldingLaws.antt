@@ -10,12 +10,12 @@ use lib.Dec.{leb}
 use lib.ListN.{length, getD}
 use borrow.Author.Tests.{leb-true}
 use Rattle.basics.proofs.Numbers.{rows-fit}
-use Rattle.rows.specs.Runs.{Between, Apart}
-use Rattle.rows.specs.Plans.{Sound, Readable, rowsIn, rowLo, rowHi, rowAt, rowSize, seenLo, seenHi, pitchOf, blockOf, halfOf, starts, startsAt}
-use Rattle.rows.specs.Rows.{gate, inRow, RowHeld, TapsOf, layerAhead, blended}
+use Rattle.states.specs.Runs.{Between, Apart}
+use Rattle.plans.specs.Plans.{Sound, Readable, rowsIn, rowLo, rowHi, rowAt, rowSize, seenLo, seenHi, pitchOf, blockOf, halfOf, starts, startsAt}
+use Rattle.states.specs.Rows.{gate, inRow, RowHeld, TapsOf, layerAhead, blended}
 use Rattle.states.specs.States.{rowBefore, lastBefore, seen, ahead, Grown}
 use Rattle.states.specs.Holding.{Slotted, tapOf, LastFrom, LastHeld, Ready, LastRow, NextRow}
-use Rattle.rows.specs.declared.plan.Plan.{Plan}
+use Rattle.plans.specs.declared.plan.Plan.{Plan}
 use Rattle.states.specs.declared.state.Slots.{Slots}
 use Rattle.theory.specs.BestWalks.{alone}
 use Rattle.states.proofs.SizeLaws.{row-before, in-block, half-linked, half-room}

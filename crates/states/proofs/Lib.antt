@@ -1,5 +1,9 @@
+pub mod RunLaws
+pub mod PlaneLaws
+pub mod RowLaws
+pub mod JoinLaws
+pub mod BlendLaws
 pub mod SizeLaws
 pub mod HoldingLaws
 pub mod StateLaws
-pub mod StackLaws
-pub mod SweepLaws
+pub mod DoorTests

@@ -5,11 +5,11 @@ use mathlib.Core.Bool.{Bool, true, false}
 use native.Mathlib.Nat.{mul-le-mul, add-mul}
 use native.Mathlib.Omega.{arith}
 use Rattle.basics.proofs.Numbers.{rows-fit}
-use Rattle.rows.specs.Plans.{Sound, rowsIn, rowLo, rowHi, rowAt, keysSize, halfOf, blockOf, rowSize, stateSize}
-use Rattle.rows.specs.Rows.{RowOf}
-use Rattle.rows.specs.declared.plan.Plan.{Plan}
-use Rattle.rows.specs.declared.plan.Row.{Row}
-use Rattle.rows.proofs.PlanSizes.{rows-few}
+use Rattle.plans.specs.Plans.{Sound, rowsIn, rowLo, rowHi, rowAt, keysSize, halfOf, blockOf, rowSize, stateSize}
+use Rattle.states.specs.Rows.{RowOf}
+use Rattle.plans.specs.declared.plan.Plan.{Plan}
+use Rattle.plans.specs.declared.plan.Row.{Row}
+use Rattle.plans.proofs.PlanSizes.{rows-few}
 
 pub block-small : (n a : ℕ) → n ≤ 9 → a ≤ 1024 → n * (a + 10) ≤ 9306
 block-small n a hn ha = mul-le-mul {n₁ = n} {m₁ = a + 10} {n₂ = 9} {m₂ = 1034} hn (omega arith)

@@ -9,16 +9,16 @@ use native.Mathlib.Nat.{add-mul}
 use native.Mathlib.Omega.{arith}
 use lib.ListN.{length, getD}
 use Rattle.basics.proofs.Numbers.{le-or-lt, rows-fit}
-use Rattle.rows.specs.Runs.{Between, Apart}
-use Rattle.rows.specs.Plans.{Sound, rowsIn, rowLo, rowHi, rowAt, startsAt, seenLo, seenHi}
-use Rattle.rows.specs.Plans.{rowSize, stateSize, keysSize, pitchOf, blockOf, halfOf}
-use Rattle.rows.specs.Rows.{gate, RowHeld, RowStored, RowJoined}
+use Rattle.states.specs.Runs.{Between, Apart}
+use Rattle.plans.specs.Plans.{Sound, rowsIn, rowLo, rowHi, rowAt, startsAt, seenLo, seenHi}
+use Rattle.plans.specs.Plans.{rowSize, stateSize, keysSize, pitchOf, blockOf, halfOf}
+use Rattle.states.specs.Rows.{gate, RowHeld, RowStored, RowJoined}
 use Rattle.states.specs.States.{rowBefore, ahead, Grown, LastHolds, Advanced, StateJoined, OtherHolds, Joined}
 use Rattle.states.specs.Holding.{Slotted, LastFrom, Ready, NextRow}
-use Rattle.rows.specs.declared.plan.Plan.{Plan}
+use Rattle.plans.specs.declared.plan.Plan.{Plan}
 use Rattle.states.specs.declared.state.Slots.{Slots}
 use Rattle.theory.specs.BestWalks.{alone}
-use Rattle.rows.proofs.PlanSizes.{rows-few}
+use Rattle.plans.proofs.PlanSizes.{rows-few}
 use Rattle.states.proofs.SizeLaws.{in-block, half-linked, half-room, row-within}
 use Rattle.states.proofs.HoldingLaws.{held-by}
 

@@ -5,9 +5,9 @@ use mathlib.Core.Logic.{_⊎_}
 use mathlib.Core.Bool.{true}
 use mathlib.Core.List.{List}
 use lib.ListN.{length, getD}
-use Rattle.rows.specs.Plans.{rowsIn, rowLo, rowHi, rowSize, seenLo, seenHi, pitchOf, blockOf, halfOf}
+use Rattle.plans.specs.Plans.{rowsIn, rowLo, rowHi, rowSize, seenLo, seenHi, pitchOf, blockOf, halfOf}
 use Rattle.states.specs.States.{rowBefore, Grown}
-use Rattle.rows.specs.declared.plan.Plan.{Plan}
+use Rattle.plans.specs.declared.plan.Plan.{Plan}
 use Rattle.states.specs.declared.state.Slots.{Slots}
 
 -- the two halves, in either order

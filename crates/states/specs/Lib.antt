@@ -1,4 +1,5 @@
+pub mod Runs
+pub mod Rows
 pub mod States
 pub mod Holding
-pub mod Stacks
-pub mod Sweeps
+pub mod Doors

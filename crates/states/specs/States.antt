@@ -5,10 +5,10 @@ use mathlib.Core.Path.{_≡_}
 use mathlib.Core.Bool.{true, false}
 use mathlib.Core.List.{List}
 use lib.ListN.{length, getD}
-use Rattle.rows.specs.Runs.{Apart}
-use Rattle.rows.specs.Plans.{rowsIn, rowLo, rowHi, rowAt, rowSize, stateSize, starts, startsAt}
-use Rattle.rows.specs.Rows.{gate, inRow}
-use Rattle.rows.specs.declared.plan.Plan.{Plan}
+use Rattle.states.specs.Runs.{Apart}
+use Rattle.plans.specs.Plans.{rowsIn, rowLo, rowHi, rowAt, rowSize, stateSize, starts, startsAt}
+use Rattle.states.specs.Rows.{gate, inRow}
+use Rattle.plans.specs.declared.plan.Plan.{Plan}
 use Rattle.theory.specs.BestWalks.{alone}
 
 -- ---- where a step finds its numbers

@@ -1,12 +1,24 @@
-// States of rows, one state further: state.rt makes a state of the one before, stack.rt keeps earlier ones
-// to make others again, sweeping.rt joins the states of both sides of a direction. The crate knows no
-// plate: its contracts speak of any numbers that obey the recursion.
-mod stack;
+// States of rows, one state further: the loops in which the engine spends its time.
+//
+// A number tells the best walk at a pixel (formula (4) of source 001, taken on grey levels). A row has
+// `planes` numbers for each of its pixels, one for every number of gaps. A row is made of three rows
+// beside it (the crate plans says which):
+//
+//     new_j(x) = max( min( key(x), M_j(x) ), M_{j-1}(x) )      M_{-1} = 0
+//     M_j(x)   = the greatest of three numbers of plane j in the rows beside
+//
+// The leaves (runs.rt) are one loop each, over slices and with no branch on the numbers, so that they are
+// compiled to vector instructions. Rows are made among held ones (rows.rt), each with a zero before and
+// after it, so that no edge is a case of its own. A state is made of the one before, row after row
+// (state.rt), where the numbers that are handed in fit (doors.rt). The crate knows no plate: its contracts speak of any numbers that obey the recursion.
+mod doors;
+mod rows;
+mod runs;
 mod state;
-mod sweeping;
 
-pub use stack::Stack;
-pub use stack::fetch;
-pub use stack::top_of;
-pub use state::advance;
-pub use sweeping::sweep;
+pub use doors::advance;
+pub use doors::advance_joined;
+pub use doors::can_hold;
+pub use doors::fill;
+pub use runs::max2;
+pub use runs::min2;

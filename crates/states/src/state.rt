@@ -4,20 +4,20 @@ ghost use mathlib.Core.Path.{_≡_};
 ghost use mathlib.Core.Logic.{_⊎_};
 ghost use Prim.Native.Nat.{ℕ, _+_, _-_, _*_, _≤_, _<_};
 ghost use lib.ListN.{length, getD};
-ghost use Rattle.rows.specs.Runs.{Apart};
-ghost use Rattle.rows.specs.Plans.{Sound, rowsIn, rowSize, stateSize, keysSize, blockOf, halfOf, starts};
+ghost use Rattle.states.specs.Runs.{Apart};
+ghost use Rattle.plans.specs.Plans.{Sound, rowsIn, rowLo, rowHi, rowAt, rowSize, stateSize, keysSize, blockOf, halfOf, starts};
 ghost use Rattle.states.specs.States.{Advanced, Joined};
 ghost use Rattle.states.specs.Holding.{Slotted, NextRow, LastRow, tapOf};
-use rows::Plan;
-use rows::Taps;
-use rows::blend_row;
-use rows::fill_run;
-use rows::join_row;
-use rows::load_row;
-use rows::row_of;
-use rows::rows_in;
-use rows::start_row;
-use rows::store_row;
+use crate::rows::blend_row;
+use crate::rows::join_row;
+use crate::rows::load_row;
+use crate::rows::start_row;
+use crate::rows::store_row;
+use crate::runs::Taps;
+use crate::runs::fill_run;
+use plans::Plan;
+use plans::Row;
+use plans::rows_in;
 
 // Where the rows of the number before and of this number begin: the row of this state, then that of the
 // last state where states are linked.
@@ -35,8 +35,17 @@ fn swapped(slots: Slots) -> Slots
     }
 }
 
+// Row m of state e, which is one of the plan's.
+fn row_in(plan: Plan, e: usize, m: usize) -> Row
+    requires { ⌜ Sound plan ⌝ }
+    requires { ⌜ (e < 65536) × (m < rowsIn plan e) ⌝ }
+    ensures { λ r. ⌜ (r .lo ≡ rowLo plan e m) × (r .hi ≡ rowHi plan e m) × (r .at ≡ rowAt plan e m) ⌝ }
+{
+    plans::row_of(plan, e, m)
+}
+
 // How much the rows of one number take.
-fn half_of(plan: Plan) -> usize
+pub(crate) fn half_of(plan: Plan) -> usize
     requires { ⌜ (plan .planes ≤ 9) × (plan .across ≤ 1024) ⌝ }
     ensures { λ r. ⌜ (r ≡ halfOf plan) × (blockOf plan ≤ r) × (r ≤ 18612) ⌝ }
 {
@@ -87,7 +96,7 @@ fn hold_last(
     if e == 0 {
         fill_run(held, slot, plan.planes * (plan.across + 10), 0);
     } else {
-        let row = row_of(plan, e - 1, m);
+        let row = row_in(plan, e - 1, m);
         let at = from + m * (plan.planes * plan.across);
         load_row(held, slot, work, at, plan, row);
     }
@@ -110,7 +119,7 @@ fn next_row(
     ensures { λ _. ⌜ NextRow plan e m (now (work .entry)) from slots (now (held .entry)) (now (held .exit)) ⌝ }
     ensures { λ _. ⌜ length (now (below .exit)) ≡ length (now (below .entry)) ⌝ }
 {
-    let row = row_of(plan, e, m);
+    let row = row_in(plan, e, m);
     if plan.linked {
         let block = plan.planes * (plan.across + 10);
         hold_last(held, slots.now + block, work, from, plan, e, m);
@@ -131,7 +140,7 @@ fn next_row(
 // State e at `to`, from the one before at `from`, which may be the same place: a row of it is read before
 // its place is written. The keys stand at the beginning of the work buffer; what `held` and `below` hold
 // is free.
-pub fn advance(
+pub(crate) fn make_state(
     work: &mut [u16],
     held: &mut [u16],
     below: &mut [u16],
@@ -155,7 +164,7 @@ pub fn advance(
     let mut m = 0;
     while m < rows {
         next_row(held, below, work, plan, e, m, from, slots);
-        let row = row_of(plan, e, m);
+        let row = row_in(plan, e, m);
         store_row(work, at, held, slots.now, plan, row);
         slots = swapped(slots);
         at += plan.planes * plan.across;
@@ -165,7 +174,7 @@ pub fn advance(
 
 // State e, from the one before at `from`, is joined with the state at `ends` and not kept: the best of each
 // pixel rises to the walks of both that meet there. Row m meets row m of the other, counted from its last.
-pub fn advance_joined(
+pub(crate) fn make_joined(
     best: &mut [u16],
     work: &[u16],
     held: &mut [u16],
@@ -192,7 +201,7 @@ pub fn advance_joined(
     while m < plan.rows {
         next_row(held, below, work, plan, e, m, from, slots);
         at -= size;
-        let row = row_of(plan, e, m);
+        let row = row_in(plan, e, m);
         join_row(best, held, slots.now, work, at, plan, row);
         slots = swapped(slots);
         m += 1;

@@ -23,7 +23,7 @@ headingOf s backwards =
 
 pub heading-known : (s : Scan) (backwards : Bool) → Sound s → Known (headingOf s backwards)
 heading-known s backwards sound =
-    record { wide = sound .wide; narrow = sound .narrow; low = sound .low; listed = sound .known; is-longest = sym (sound .long) }
+    record { wide = sound .size .wide; narrow = sound .size .narrow; low = sound .size .low; listed = sound .known; is-longest = sym (sound .long) }
 
 module _ (h : Heading) (old : List ℕ) (start steps : ℕ) where
   -- after n of the steps: the trail is written as far as this place, which has room for the others

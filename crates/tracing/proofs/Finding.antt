@@ -26,13 +26,13 @@ accepted-still W H s plate result work work₁ e a = rw e a
 module _ (r : Scan) (W H : ℕ) (s : Setting) (index : ℕ) (sound : Sound r) (of : ScanOf r W H s index) (long : 1 ≤ s .length) where
   pub scan-keys : (f : List ℤ) → keyOf r f ≡ keysBy (s .mode) f
   unfolding keyOf keysBy
-  scan-keys f = rw (of .is-mode)
+  scan-keys f = rw (of .is-setting)
 
   pub scan-pixels : r .width * r .height ≡ W * H
   scan-pixels = rw (of .is-width, of .is-height)
 
-  pub scan-room : (work : ℕ) → 4 * (s .gaps + 1) * (W * H) ≤ work → 4 * (r .gaps + 1) * (r .width * r .height) ≤ work
-  scan-room work h = rw (scan-pixels, of .is-gaps) h
+  pub scan-room : (work : ℕ) → 4 * (s .gaps + 1) * (W * H) ≤ work → 4 * (r .setting .gaps + 1) * (r .width * r .height) ≤ work
+  scan-room work h = rw (scan-pixels, of .is-setting) h
 
   pub scan-spare : r .spare ≡ span W H (2 ^ index) - s .length
   scan-spare =
@@ -40,21 +40,21 @@ module _ (r : Scan) (W H : ℕ) (s : Setting) (index : ℕ) (sound : Sound r) (o
       omega (arith, of .is-steps)
 
   pub scan-found :
-      (f : List ℤ) (x : ℕ) (old new : Found) → FoundIn (r .width) (r .height) (r .steps) (r .gaps) (r .spare) (keyOf r f) x (r .index) old new →
+      (f : List ℤ) (x : ℕ) (old new : Found) → FoundIn (r .width) (r .height) (r .steps) (r .setting .gaps) (r .spare) (keyOf r f) x (r .index) old new →
       FoundAt W H s f x index old new
   scan-found f x old new d =
-      rw (scan-keys f, scan-spare, of .is-width, of .is-height, of .is-steps, of .is-gaps, of .is-index) at d
+      rw (scan-keys f, scan-spare, of .is-width, of .is-height, of .is-steps, of .is-setting, of .is-index) at d
 
   pub scan-attained :
       (f : List ℤ) (x t before gaps : ℕ) → Attained W H (s .length - 1) (s .gaps) (span W H (2 ^ index) - s .length) (keysBy (s .mode) f) x (2 ^ index) t before gaps →
-      Attained (r .width) (r .height) (r .steps) (r .gaps) (r .spare) (keyOf r f) x (bitOf r) t before gaps
+      Attained (r .width) (r .height) (r .steps) (r .setting .gaps) (r .spare) (keyOf r f) x (bitOf r) t before gaps
   scan-attained f x t before gaps a =
-      rw (scan-keys f, scan-spare, of .is-width, of .is-height, of .is-steps, of .is-gaps, of .is-index) a
+      rw (scan-keys f, scan-spare, of .is-width, of .is-height, of .is-steps, of .is-setting, of .is-index) a
 
   pub scan-drawn :
-      (f : List ℤ) (x t : ℕ) (path : List ℕ) → Drawn (r .width) (r .height) (bitOf r) (keyOf r f) t (r .steps) (r .gaps) x path →
+      (f : List ℤ) (x t : ℕ) (path : List ℕ) → Drawn (r .width) (r .height) (bitOf r) (keyOf r f) t (r .steps) (r .setting .gaps) x path →
       Drawn W H (2 ^ index) (keysBy (s .mode) f) t (s .length - 1) (s .gaps) x path
-  scan-drawn f x t path d = rw (scan-keys f, of .is-width, of .is-height, of .is-steps, of .is-gaps, of .is-index) at d
+  scan-drawn f x t path d = rw (scan-keys f, of .is-width, of .is-height, of .is-steps, of .is-setting, of .is-index) at d
 
 -- ---- one direction after the other
 

@@ -14,9 +14,9 @@ use Rattle.basics.proofs.Numbers.{le-or-lt, le-max-split}
 use Rattle.theory.proofs.LevelSets.{under-low, under-high}
 use Rattle.theory.proofs.Ends.{from-last}
 use Rattle.theory.proofs.Towards.{turn-opposite}
-use Rattle.rows.specs.Plans.{Sound as PlanSound, lineAt, rowLo, rowHi, rowAt, rowsIn, starts}
+use Rattle.plans.specs.Plans.{Sound as PlanSound, lineAt, rowLo, rowHi, rowAt, rowsIn, starts}
 use Rattle.states.specs.States.{seen, ahead, Grown}
-use Rattle.rows.specs.declared.plan.Plan.{Plan}
+use Rattle.plans.specs.declared.plan.Plan.{Plan}
 use Rattle.directions.specs.Numbers.{stepsAt, pixelIn, numberAt, placeKept}
 use Rattle.directions.proofs.TraceTaps.{Tap, Leads, seen-tap}
 use Rattle.tracing.specs.Scans.{Sound, bitOf, keyOf}
@@ -24,7 +24,7 @@ use Rattle.tracing.specs.Sights.{Seen, seenAt}
 use Rattle.tracing.specs.Following.{Tells, Picked, TapTo, StepTo, OnRow, Stands}
 use Rattle.tracing.specs.declared.follow.Stand.{Stand}
 use Rattle.tracing.specs.declared.scan.Scan.{Scan}
-use Rattle.tracing.specs.declared.sight.Sight.{Sight}
+use Rattle.directions.specs.declared.sight.Sight.{Sight}
 use Rattle.theory.specs.BestWalks.{under, reachFrom}
 use Rattle.theory.specs.Modes.{Levels}
 use Rattle.theory.specs.Walks.{around, opposite}

@@ -11,12 +11,12 @@ use lib.Seq.{getD-set-same, getD-set-other}
 use borrow.Author.Tests.{eqb-true, eqb-false}
 use Rattle.basics.proofs.Numbers.{le-or-lt}
 use Rattle.basics.proofs.Tests.{true-or-false}
-use Rattle.rows.specs.Runs.{Apart}
-use Rattle.rows.specs.Plans.{Sound, rowsIn, rowLo, rowHi, rowSize, stateSize, keysSize}
+use Rattle.states.specs.Runs.{Apart}
+use Rattle.plans.specs.Plans.{Sound, rowsIn, rowLo, rowHi, rowSize, stateSize, keysSize}
 use Rattle.states.specs.States.{Holds, LastHolds, Advanced}
-use Rattle.states.specs.Stacks.{KeysAre, Sequence}
-use Rattle.states.proofs.StackLaws.{apart-none, apart-then, keys-apart, made, last-made}
-use Rattle.rows.specs.declared.plan.Plan.{Plan}
+use Rattle.sweeps.specs.Stacks.{KeysAre, Sequence}
+use Rattle.sweeps.proofs.StackLaws.{apart-none, apart-then, keys-apart, made, last-made}
+use Rattle.plans.specs.declared.plan.Plan.{Plan}
 use Rattle.directions.specs.Numbers.{stepsAt}
 use Rattle.tracing.specs.Noting.{Highest, Lifted, FromRow, FromState, NotesFit, rowCells, stateCells}
 

@@ -7,10 +7,10 @@ use mathlib.Core.Logic.{_⊎_, inl, inr, ⊎-elim}
 use native.Mathlib.Omega.{arith}
 use lib.ListN.{getD}
 use Rattle.basics.proofs.Numbers.{le-or-lt}
-use Rattle.rows.specs.Plans.{Sound, rowLo, rowHi, rowsIn, rowSize, stateSize}
+use Rattle.plans.specs.Plans.{Sound, rowLo, rowHi, rowsIn, rowSize, stateSize}
 use Rattle.states.specs.States.{Holds}
-use Rattle.rows.specs.declared.plan.Plan.{Plan}
-use Rattle.rows.proofs.PlanSizes.{part-fits}
+use Rattle.plans.specs.declared.plan.Plan.{Plan}
+use Rattle.plans.proofs.PlanSizes.{part-fits}
 use Rattle.states.proofs.SizeLaws.{row-within}
 use Rattle.tracing.specs.Following.{Tells, storedAt, Picked, RowsFrom, OfSteps, JustBefore, TapTo, StepTo}
 use Rattle.tracing.specs.declared.follow.Stand.{Stand}

@@ -11,7 +11,7 @@ use lib.IntN.{ℤ}
 use Rattle.theory.proofs.Ends.{from-more-gaps}
 use Rattle.theory.proofs.Towards.{towards}
 use Rattle.frames.specs.Frames.{placeIn}
-use Rattle.rows.specs.Plans.{rowLo, rowHi, rowsIn}
+use Rattle.plans.specs.Plans.{rowLo, rowHi, rowsIn}
 use Rattle.directions.specs.Numbers.{numberAt}
 use Rattle.directions.specs.Plans.{byRows}
 use Rattle.directions.proofs.TraceRows.{HasRow, trace-first}
@@ -20,7 +20,7 @@ use Rattle.directions.proofs.TraceTaps.{Tap, Leads, first-tap, second-tap, thir
 use Rattle.tracing.specs.Scans.{Sound, bitOf, keyOf}
 use Rattle.tracing.specs.Sights.{Seen, seenAt}
 use Rattle.tracing.specs.declared.scan.Scan.{Scan}
-use Rattle.tracing.specs.declared.sight.Sight.{Sight}
+use Rattle.directions.specs.declared.sight.Sight.{Sight}
 use Rattle.theory.specs.Modes.{Levels}
 use Rattle.theory.specs.Walks.{around, opposite}
 use Rattle.tracing.proofs.Modes.{keys-bounded}
@@ -34,13 +34,13 @@ module _ (s : Scan) (sound : Sound s) (b : Bool) (x : ℕ) (r : Sight) (view : S
       (e m z : ℕ) → m < rowsIn (r .plan) e → rowLo (r .plan) e m ≤ z → z < rowHi (r .plan) e m → PixelOn (r .frame) (r .plan) (s .width) (s .height) e m z
   seen-pixels =
       rw (view .is-plan)
-      (trace-pixels (r .frame) (s .width) (s .height) (s .index) (view .framed) (view .of) rows (opposite b) (s .steps + 1) (s .gaps + 1) (view .spot) x
+      (trace-pixels (r .frame) (s .width) (s .height) (s .index) (view .framed) (view .of) rows (opposite b) (s .steps + 1) (s .setting .gaps + 1) (view .spot) x
       (view .is-spot))
 
   -- where there are no ranks there is one state
   pub seen-first : (e : ℕ) → e < r .states → r .plan .ranked ≡ false → e ≡ 0
   seen-first e h k =
-      trace-first (r .frame) rows (opposite b) (s .steps + 1) (s .gaps + 1) (view .spot) e (rw (view .is-states) at h) (rw (view .is-plan) at k)
+      trace-first (r .frame) rows (opposite b) (s .steps + 1) (s .setting .gaps + 1) (view .spot) e (rw (view .is-states) at h) (rw (view .is-plan) at k)
 
   -- a number that is not 0 has its row
   pub seen-row :
@@ -71,7 +71,7 @@ module _ (s : Scan) (sound : Sound s) (b : Bool) (x : ℕ) (r : Sight) (view : S
         Leads (r .frame) (r .plan) (opposite b) (s .width) (s .height) (s .index) e m z e′ m′ z′
     seen-tap-0 =
         rw (view .is-plan)
-        (first-tap (r .frame) (s .width) (s .height) (s .index) (view .framed) rows (opposite b) (s .steps + 1) (s .gaps + 1) (view .spot) x
+        (first-tap (r .frame) (s .width) (s .height) (s .index) (view .framed) rows (opposite b) (s .steps + 1) (s .setting .gaps + 1) (view .spot) x
         (view .is-spot) e m z e′ m′ z′)
 
     pub seen-tap-1 :
@@ -79,7 +79,7 @@ module _ (s : Scan) (sound : Sound s) (b : Bool) (x : ℕ) (r : Sight) (view : S
         Leads (r .frame) (r .plan) (opposite b) (s .width) (s .height) (s .index) e m z e′ m′ z′
     seen-tap-1 =
         rw (view .is-plan)
-        (second-tap (r .frame) (s .width) (s .height) (s .index) (view .framed) rows (opposite b) (s .steps + 1) (s .gaps + 1) (view .spot) x
+        (second-tap (r .frame) (s .width) (s .height) (s .index) (view .framed) rows (opposite b) (s .steps + 1) (s .setting .gaps + 1) (view .spot) x
         (view .is-spot) e m z e′ m′ z′)
 
     pub seen-tap-2 :
@@ -87,5 +87,5 @@ module _ (s : Scan) (sound : Sound s) (b : Bool) (x : ℕ) (r : Sight) (view : S
         Leads (r .frame) (r .plan) (opposite b) (s .width) (s .height) (s .index) e m z e′ m′ z′
     seen-tap-2 =
         rw (view .is-plan)
-        (third-tap (r .frame) (s .width) (s .height) (s .index) (view .framed) rows (opposite b) (s .steps + 1) (s .gaps + 1) (view .spot) x
+        (third-tap (r .frame) (s .width) (s .height) (s .index) (view .framed) rows (opposite b) (s .steps + 1) (s .setting .gaps + 1) (view .spot) x
         (view .is-spot) e m z e′ m′ z′)

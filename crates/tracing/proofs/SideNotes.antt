@@ -12,8 +12,8 @@ use lib.IntN.{ℤ}
 use Rattle.basics.proofs.Numbers.{le-or-lt, rows-fit}
 use Rattle.theory.proofs.Towards.{towards, towards-best}
 use Rattle.frames.specs.Frames.{placeIn}
-use Rattle.rows.specs.Runs.{Between, Apart}
-use Rattle.rows.specs.Plans.{lineAt}
+use Rattle.states.specs.Runs.{Between, Apart}
+use Rattle.plans.specs.Plans.{lineAt}
 use Rattle.directions.specs.Numbers.{numberAt, stepsAt, pixelIn}
 use Rattle.directions.proofs.TraceRows.{HasRow}
 use Rattle.tracing.specs.Scans.{Sound, bitOf, keyOf}
@@ -21,7 +21,7 @@ use Rattle.tracing.specs.Sights.{Seen, seenAt}
 use Rattle.tracing.specs.Noting.{Lifted, NotesFit}
 use Rattle.tracing.specs.Finding.{Noted, cells}
 use Rattle.tracing.specs.declared.scan.Scan.{Scan}
-use Rattle.tracing.specs.declared.sight.Sight.{Sight}
+use Rattle.directions.specs.declared.sight.Sight.{Sight}
 use Rattle.theory.specs.Modes.{Levels}
 use Rattle.tracing.proofs.Modes.{keys-bounded}
 use Rattle.tracing.proofs.Noting.{FromSide}
@@ -40,10 +40,10 @@ digits-same w a b i j hi hj e =
 
 module _ (s : Scan) (sound : Sound s) (backwards : Bool) (x : ℕ) (r : Sight) (seen : Seen s backwards x r) where
   abbrev planes : ℕ
-  planes = s .gaps + 1
+  planes = s .setting .gaps + 1
 
   -- the notes of every row find room
-  pub notes-fit : (e to size : ℕ) → e < r .states → to + (s .steps + 1) * (s .gaps + 1) ≤ size → NotesFit (r .plan) e to size
+  pub notes-fit : (e to size : ℕ) → e < r .states → to + (s .steps + 1) * (s .setting .gaps + 1) ≤ size → NotesFit (r .plan) e to size
   notes-fit e to size h room =
       record {
         fits = λ m k.
@@ -52,7 +52,7 @@ module _ (s : Scan) (sound : Sound s) (backwards : Bool) (x : ℕ) (r : Sight) (
       }
 
   module _ (plate : List ℤ) (levels : Levels plate) (on : x < s .width * s .height) (to : ℕ) (old mid new : List ℕ)
-      (zeros : Between (λ (q : ℕ). 0) old mid to (to + (s .steps + 1) * (s .gaps + 1)))
+      (zeros : Between (λ (q : ℕ). 0) old mid to (to + (s .steps + 1) * (s .setting .gaps + 1)))
       (d : Lifted (FromSide (r .plan) (seenAt s backwards plate x r) to (r .states)) mid new) where
     abbrev best : ℕ → ℕ → ℕ → ℕ
     best l j q = towards backwards (s .width) (s .height) (bitOf s) (keyOf s plate) x l j q
@@ -69,7 +69,7 @@ module _ (s : Scan) (sound : Sound s) (backwards : Bool) (x : ℕ) (r : Sight) (
     unfolding numberAt
     seen-is l j i z h = rw (h .steps, h .place)
 
-    from-row : (l j i z : ℕ) → j ≤ s .gaps → HasRow (r .frame) (r .plan) (r .states) l i z → From (noteOf l j) (best l j (placeIn (r .frame) i z))
+    from-row : (l j i z : ℕ) → j ≤ s .setting .gaps → HasRow (r .frame) (r .plan) (r .states) l i z → From (noteOf l j) (best l j (placeIn (r .frame) i z))
     from-row l j i z hj h =
         record {
           state = h .state;
@@ -89,7 +89,7 @@ module _ (s : Scan) (sound : Sound s) (backwards : Bool) (x : ℕ) (r : Sight) (
           };
         }
 
-    upper : (l j q : ℕ) → l ≤ s .steps → j ≤ s .gaps → q < s .width * s .height → best l j q ≤ getD new (noteOf l j) 0
+    upper : (l j q : ℕ) → l ≤ s .steps → j ≤ s .setting .gaps → q < s .width * s .height → best l j q ≤ getD new (noteOf l j) 0
     upper l j q hl hj hq =
         let w = seen .framed .whole q hq in
         let i = w .0 in
@@ -99,7 +99,7 @@ module _ (s : Scan) (sound : Sound s) (backwards : Bool) (x : ℕ) (r : Sight) (
         (sight-rows s sound backwards x r seen (keyOf s plate) l i z hl (w .2) (w .3)))
 
     -- and a note comes from a row of its steps and gaps
-    from-note : (l j v : ℕ) → j ≤ s .gaps → From (noteOf l j) v → (q : ℕ) × (v ≡ best l j q)
+    from-note : (l j v : ℕ) → j ≤ s .setting .gaps → From (noteOf l j) v → (q : ℕ) × (v ≡ best l j q)
     unfolding numberAt
     from-note l j v hj f =
         let n = f .number .number in
@@ -109,14 +109,14 @@ module _ (s : Scan) (sound : Sound s) (backwards : Bool) (x : ℕ) (r : Sight) (
         let same = digits-same planes st l (n .plane) j few (omega arith) (omega (arith, here)) in
         (pixelIn (r .frame) (r .plan .ranked) (lineAt (r .plan) (f .state) (f .number .row)) (n .pixel), rw (same .0, same .1) at (n .is))
 
-    least : (l j : ℕ) → l ≤ s .steps → j ≤ s .gaps → (getD new (noteOf l j) 0 ≡ 0) ⊎ ((q : ℕ) × (getD new (noteOf l j) 0 ≡ best l j q))
+    least : (l j : ℕ) → l ≤ s .steps → j ≤ s .setting .gaps → (getD new (noteOf l j) 0 ≡ 0) ⊎ ((q : ℕ) × (getD new (noteOf l j) 0 ≡ best l j q))
     least l j hl hj =
         ⊎-elim
         (λ e. inl (e ∙ zeros .inside (noteOf l j) (omega arith) (omega (arith, rows-fit l 1 (s .steps + 1) planes (omega arith)))))
         (λ f. inr (from-note l j (getD new (noteOf l j) 0) hj f))
         (d .source (noteOf l j))
 
-    pub side-noted : Noted (cells new to) (s .width) (s .height) (bitOf s) backwards (keyOf s plate) (s .gaps) (s .steps) x
+    pub side-noted : Noted (cells new to) (s .width) (s .height) (bitOf s) backwards (keyOf s plate) (s .setting .gaps) (s .steps) x
     side-noted =
         record {
           is = λ l j hl hj.
@@ -125,7 +125,7 @@ module _ (s : Scan) (sound : Sound s) (backwards : Bool) (x : ℕ) (r : Sight) (
         }
 
     -- where a number is noted
-    noted-within : (q v : ℕ) → From q v → (to ≤ q) × (q < to + (s .steps + 1) * (s .gaps + 1))
+    noted-within : (q v : ℕ) → From q v → (to ≤ q) × (q < to + (s .steps + 1) * (s .setting .gaps + 1))
     noted-within q v f =
         let n = f .number .number in
         let st = stepsAt (r .plan) (f .state) (f .number .row) in
@@ -134,7 +134,7 @@ module _ (s : Scan) (sound : Sound s) (backwards : Bool) (x : ℕ) (r : Sight) (
         let steps = sight-steps-few s sound backwards x r seen (f .state) (f .number .row) (f .state-below) (f .number .row-below) in
         (omega (arith, here), omega (arith, here, few, rows-fit st 1 (s .steps + 1) planes (omega (arith, steps))))
 
-    pub side-apart : Apart old new to (to + (s .steps + 1) * (s .gaps + 1))
+    pub side-apart : Apart old new to (to + (s .steps + 1) * (s .setting .gaps + 1))
     side-apart =
         record {
           under = λ q h. ⊎-elim (λ e. e ∙ zeros .under q h) (λ f. absurd (omega (arith, noted-within q (getD new q 0) f))) (d .source q);

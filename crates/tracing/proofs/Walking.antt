@@ -9,20 +9,20 @@ use lib.ListN.{length, getD, set}
 use lib.IntN.{ℤ}
 use Rattle.basics.proofs.Numbers.{rows-fit}
 use Rattle.theory.proofs.Towards.{towards-find}
-use Rattle.rows.specs.Plans.{rowsIn, stateSize, keysSize}
-use Rattle.rows.specs.Runs.{Between}
+use Rattle.plans.specs.Plans.{rowsIn, stateSize, keysSize}
 use Rattle.states.specs.States.{Holds}
-use Rattle.states.specs.Stacks.{Sequence, Stacked, StackFits, Fetched, lastMark}
-use Rattle.rows.specs.declared.plan.Plan.{Plan}
-use Rattle.states.specs.declared.stack.Stack.{Stack}
-use Rattle.directions.specs.Numbers.{numberAt, placeKept, keysBy}
+use Rattle.sweeps.specs.Stacks.{Sequence, Stacked, StackFits, Fetched, lastMark}
+use Rattle.plans.specs.declared.plan.Plan.{Plan}
+use Rattle.sweeps.specs.declared.stack.Stack.{Stack}
+use Rattle.directions.specs.Doors.{Laid}
+use Rattle.directions.specs.Numbers.{numberAt, placeKept}
 use Rattle.directions.proofs.TracePlans.{TraceRoomy}
 use Rattle.tracing.specs.Scans.{Sound, bitOf, keyOf}
 use Rattle.tracing.specs.Sights.{Seen, seenAt}
 use Rattle.tracing.specs.Following.{Leads, Within, Trail, indexAfter, lowAlong, Tells, storedAt, Picked, OfSteps, StepTo, Stands, Kept}
 use Rattle.tracing.specs.declared.follow.Stand.{Stand}
 use Rattle.tracing.specs.declared.scan.Scan.{Scan}
-use Rattle.tracing.specs.declared.sight.Sight.{Sight}
+use Rattle.directions.specs.declared.sight.Sight.{Sight}
 use Rattle.theory.specs.BestWalks.{under}
 use Rattle.theory.specs.Modes.{Levels}
 use Rattle.tracing.proofs.Inward.{Inward, inward-nearer, inward-trail, inward-few}
@@ -64,7 +64,7 @@ module _ (s : Scan) (b : Bool) (plate : List ℤ) (x : ℕ) (r : Sight) (sound :
         }
 
     pub kept-empty :
-        Between (λ (q : ℕ). keysBy (s .mode) plate (placeKept (r .frame) (r .plan .ranked) q)) old work 0 (r .frame .lines * r .frame .across) →
+        Laid (s .width) (s .height) (s .index) (r .plan .ranked) (s .setting .mode) plate old work →
         StackFits (r .plan) stack (length work) (length marks) → Kept s b plate x r work marks stack
     kept-empty filled fits =
         record {
@@ -139,7 +139,7 @@ module _ (s : Scan) (b : Bool) (plate : List ℤ) (x : ℕ) (r : Sight) (sound :
   wanted-some true n = omega arith
   wanted-some false n = omega arith
 
-  module _ (levels : Levels plate) (t n j : ℕ) (positive : 1 ≤ t) (short : n ≤ s .steps) (few : j ≤ s .gaps)
+  module _ (levels : Levels plate) (t n j : ℕ) (positive : 1 ≤ t) (short : n ≤ s .steps) (few : j ≤ s .setting .gaps)
       (leads : Leads (s .width) (s .height) (bitOf s) b (keyOf s plate) t (s .spare) n j x) where
     -- there is one
     pub record End : Type 0 where

@@ -7,15 +7,15 @@ use mathlib.Core.List.{List, List·Memᴰ}
 use mathlib.Core.Logic.{_⊎_}
 use lib.ListN.{length, getD}
 use lib.IntN.{ℤ}
-use Rattle.rows.specs.Plans.{rowLo, rowHi, rowsIn, rowSize, halfOf}
-use Rattle.states.specs.Stacks.{KeysAre, Stacked, StackFits}
-use Rattle.rows.specs.declared.plan.Plan.{Plan}
-use Rattle.states.specs.declared.stack.Stack.{Stack}
+use Rattle.plans.specs.Plans.{rowLo, rowHi, rowsIn, rowSize, halfOf}
+use Rattle.sweeps.specs.Stacks.{KeysAre, Stacked, StackFits}
+use Rattle.plans.specs.declared.plan.Plan.{Plan}
+use Rattle.sweeps.specs.declared.stack.Stack.{Stack}
 use Rattle.directions.specs.Numbers.{stepsAt, placeKept}
 use Rattle.tracing.specs.Scans.{keyOf}
 use Rattle.tracing.specs.Sights.{seenAt}
 use Rattle.tracing.specs.declared.scan.Scan.{Scan}
-use Rattle.tracing.specs.declared.sight.Sight.{Sight}
+use Rattle.directions.specs.declared.sight.Sight.{Sight}
 use Rattle.tracing.specs.declared.follow.Stand.{Stand}
 use Rattle.theory.specs.BestWalks.{reach, lowFrom}
 use Rattle.theory.specs.Walks.{around}
@@ -111,7 +111,7 @@ pub record OnRow (p : Plan) (s : Stand) : Type 0 where
 pub record Stands (s : Scan) (backwards : Bool) (plate : List ℤ) (x : ℕ) (r : Sight) (t n : ℕ) (stand : Stand) : Type 0 where
   pub state : stand .state < r .states
   pub steps : stepsAt (r .plan) (stand .state) (stand .row) ≡ n
-  pub gaps : stand .gaps ≤ s .gaps
+  pub gaps : stand .gaps ≤ s .setting .gaps
   pub tells : Tells (seenAt s backwards plate x r) (r .plan) (stand .gaps) t (stand .state) (stand .row) (stand .pixel)
 
 -- the keys and some states of a sight stand in the work buffer

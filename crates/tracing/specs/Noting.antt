@@ -5,8 +5,8 @@ use mathlib.Core.Path.{_≡_}
 use mathlib.Core.List.{List}
 use mathlib.Core.Logic.{_⊎_}
 use lib.ListN.{length, getD}
-use Rattle.rows.specs.Plans.{rowsIn, rowLo, rowHi, rowSize}
-use Rattle.rows.specs.declared.plan.Plan.{Plan}
+use Rattle.plans.specs.Plans.{rowsIn, rowLo, rowHi, rowSize}
+use Rattle.plans.specs.declared.plan.Plan.{Plan}
 use Rattle.directions.specs.Numbers.{stepsAt}
 
 -- r is the highest of v and of f at the places from lo below hi

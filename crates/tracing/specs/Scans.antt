@@ -5,6 +5,7 @@ use mathlib.Core.List.{List}
 use lib.IntN.{ℤ}
 use Rattle.plate.specs.Opening.{levelAt}
 use Rattle.plate.specs.Paths.{span}
+use Rattle.plate.specs.Sizes.{GoodSize}
 use Rattle.plate.specs.declared.setting.Setting.{Setting}
 use Rattle.frames.specs.Keys.{keyBy}
 use Rattle.tracing.specs.declared.scan.Scan.{Scan}
@@ -15,26 +16,22 @@ bitOf s = 2 ^ s .index
 
 -- the key of the plate at a place, as the mode looks at it
 unfoldable pub keyOf : Scan → List ℤ → ℕ → ℕ
-keyOf s plate p = keyBy (s .mode) (levelAt plate p)
+keyOf s plate p = keyBy (s .setting .mode) (levelAt plate p)
 
 -- the numbers of a scan are those of a plate and a direction whose paths of this length exist
 pub record Sound (s : Scan) : Type 0 where
-  pub wide : 1 ≤ s .width
-  pub narrow : s .width ≤ 1024
-  pub high : 1 ≤ s .height
-  pub low : s .height ≤ 1024
-  pub small : s .width * s .height ≤ 65536
-  pub few : s .gaps ≤ 8
+  pub size : GoodSize (s .width) (s .height)
+  pub few : s .setting .gaps ≤ 8
   pub known : s .index < 4
   pub long : span (s .width) (s .height) (bitOf s) ≡ s .steps + s .spare + 1
   pub short : s .steps + s .spare < 2048
   pub few-steps : s .steps < 1024
+  pub is-length : s .setting .length ≡ s .steps + 1
 
 -- the scan of a direction, by its place in the table
 pub record ScanOf (r : Scan) (W H : ℕ) (s : Setting) (index : ℕ) : Type 0 where
-  pub is-mode : r .mode ≡ s .mode
   pub is-width : r .width ≡ W
   pub is-height : r .height ≡ H
-  pub is-gaps : r .gaps ≡ s .gaps
+  pub is-setting : r .setting ≡ s
   pub is-index : r .index ≡ index
   pub is-steps : r .steps ≡ s .length - 1

@@ -10,19 +10,21 @@ use Rattle.frames.specs.Frames.{Framed}
 use Rattle.directions.specs.Plans.{FrameOf, byRows}
 use Rattle.directions.specs.Traces.{SpotOf, tracePlan, traceStates}
 use Rattle.directions.specs.Numbers.{numberAt}
+use Rattle.directions.specs.Doors.{frameOf}
 use Rattle.directions.specs.declared.frame.Spot.{Spot}
 use Rattle.tracing.specs.Scans.{bitOf, keyOf}
 use Rattle.tracing.specs.declared.scan.Scan.{Scan}
-use Rattle.tracing.specs.declared.sight.Sight.{Sight}
+use Rattle.directions.specs.declared.sight.Sight.{Sight}
 use Rattle.theory.specs.Walks.{around, opposite}
 
 -- frame, plan and states of the walks from the pixel at x
 pub record Seen (s : Scan) (backwards : Bool) (x : ℕ) (r : Sight) : Type 0 where
+  pub is-frame : r .frame ≡ frameOf (s .width) (s .height) (s .index)
   pub framed : Framed (r .frame) (s .width) (s .height) (s .index)
   pub of : FrameOf (r .frame) (s .width) (s .height) (s .index)
   pub spot : Spot
   pub is-spot : SpotOf (r .frame) spot x
-  pub is-plan : r .plan ≡ tracePlan (r .frame) (byRows (s .width) (s .height) (s .index)) (opposite backwards) (s .steps + 1) (s .gaps + 1) spot
+  pub is-plan : r .plan ≡ tracePlan (r .frame) (byRows (s .width) (s .height) (s .index)) (opposite backwards) (s .steps + 1) (s .setting .gaps + 1) spot
   pub is-states : r .states ≡ traceStates (r .frame) (opposite backwards) (s .steps + 1) spot
 
 -- the best walk from x to a pixel: of row m of state e with at most j gaps

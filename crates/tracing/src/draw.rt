@@ -21,10 +21,10 @@ pub(crate) fn draw(
     x: usize,
 )
     requires { ⌜ Sound scan ⌝ }
-    requires { ⌜ (length (now plate) ≡ scan .width * scan .height) × (4 * (scan .gaps + 1) * (scan .width * scan .height) ≤ length (now work)) × (length (now path) ≡ scan .steps + 1) ⌝ }
+    requires { ⌜ (length (now plate) ≡ scan .width * scan .height) × (4 * (scan .setting .gaps + 1) * (scan .width * scan .height) ≤ length (now work)) × (length (now path) ≡ scan .steps + 1) ⌝ }
     requires { ⌜ Levels (now plate) ⌝ }
-    requires { ⌜ Attained (scan .width) (scan .height) (scan .steps) (scan .gaps) (scan .spare) (keyOf scan (now plate)) x (bitOf scan) (found .key) (found .before) (found .gaps) ⌝ }
-    ensures { λ _. ⌜ Drawn (scan .width) (scan .height) (bitOf scan) (keyOf scan (now (plate .entry))) (found .key) (scan .steps) (scan .gaps) x (now (path .exit)) ⌝ }
+    requires { ⌜ Attained (scan .width) (scan .height) (scan .steps) (scan .setting .gaps) (scan .spare) (keyOf scan (now plate)) x (bitOf scan) (found .key) (found .before) (found .gaps) ⌝ }
+    ensures { λ _. ⌜ Drawn (scan .width) (scan .height) (bitOf scan) (keyOf scan (now (plate .entry))) (found .key) (scan .steps) (scan .setting .gaps) x (now (path .exit)) ⌝ }
 {
     let start = found.before;
     path[start] = x;
@@ -32,7 +32,7 @@ pub(crate) fn draw(
         key: found.key,
         start: start,
         steps: scan.steps - start,
-        gaps: scan.gaps - found.gaps,
+        gaps: scan.setting.gaps - found.gaps,
     };
     follow(path, work, plate, scan, false, on);
     let back = Walk {

@@ -54,7 +54,7 @@ fn search_row(
     let mut best = found;
     let mut i = 0;
     while i < gaps + 1 {
-        let key = rows::min2(own, rows::min2(work[ends + i], work[goes + (gaps - i)]));
+        let key = states::min2(own, states::min2(work[ends + i], work[goes + (gaps - i)]));
         if key > best.key {
             best = Found {
                 index: index,
@@ -118,8 +118,8 @@ const GOES: usize = 9216;
 // All paths of one direction through the pixel x.
 fn find_in(work: &mut [u16], plate: &[i16], scan: Scan, x: usize, found: Found) -> Found
     requires { ⌜ Sound scan ⌝ }
-    requires { ⌜ (length (now plate) ≡ scan .width * scan .height) × (x < scan .width * scan .height) × (4 * (scan .gaps + 1) * (scan .width * scan .height) ≤ length (now work)) ⌝ }
-    ensures { λ r. ⌜ FoundIn (scan .width) (scan .height) (scan .steps) (scan .gaps) (scan .spare) (keyOf scan (now (plate .entry))) x (scan .index) found r ⌝ }
+    requires { ⌜ (length (now plate) ≡ scan .width * scan .height) × (x < scan .width * scan .height) × (4 * (scan .setting .gaps + 1) * (scan .width * scan .height) ≤ length (now work)) ⌝ }
+    ensures { λ r. ⌜ FoundIn (scan .width) (scan .height) (scan .steps) (scan .setting .gaps) (scan .spare) (keyOf scan (now (plate .entry))) x (scan .index) found r ⌝ }
     ensures { λ _. ⌜ Levels (now (plate .entry)) ⌝ }
 {
     let heading = Heading {
@@ -133,9 +133,9 @@ fn find_in(work: &mut [u16], plate: &[i16], scan: Scan, x: usize, found: Found) 
         ends: 0,
         goes: GOES,
         steps: scan.steps,
-        gaps: scan.gaps,
+        gaps: scan.setting.gaps,
     };
-    let own = frames::key_by(scan.mode, plate[x]);
+    let own = frames::key_by(scan.setting.mode, plate[x]);
     let rank = rank_of(heading, x);
     let mut notes = [0u16; 18432];
     note_side(&mut notes, 0, work, plate, scan, true, x);

@@ -6,18 +6,23 @@ ghost use mathlib.Core.Bool.{true, false, cond};
 ghost use Prim.Native.Nat.{ℕ, _+_, _-_, _*_, _≤_, _<_, min};
 ghost use lib.ListN.{length, getD};
 ghost use Rattle.tracing.specs.Scans.{Sound, bitOf, keyOf};
-ghost use Rattle.rows.specs.Plans.{Sound as PlanSound, rowsIn, rowAt, stateSize};
+ghost use Rattle.plans.specs.Plans.{Sound as PlanSound, rowsIn, rowAt, stateSize};
 ghost use Rattle.directions.specs.Numbers.{KeptOn, placeKept};
+ghost use Rattle.directions.specs.Doors.{frameOf};
 ghost use Rattle.tracing.specs.Sights.{Seen};
 ghost use Rattle.tracing.specs.Following.{Leads, Within, Trail, indexAfter, lowAlong, storedAt, Picked, RowsFrom, OfSteps, JustBefore, TapTo, StepTo, OnRow, Stands, Kept, HeldFit};
 ghost use Rattle.theory.specs.Modes.{Levels};
 ghost use Rattle.theory.specs.BestWalks.{under};
 use crate::onward::follow_any;
 use crate::scan::Scan;
-use crate::sight::Sight;
+use crate::sight::lay_keys;
 use crate::sight::sight_of;
-use rows::Plan;
-use states::Stack;
+use crate::taken::fetch;
+use crate::taken::row_in;
+use crate::taken::top_of;
+use directions::Sight;
+use plans::Plan;
+use sweeps::Stack;
 
 // The walk that is followed: the key at which it counts, the index of the picked pixel in the path, how many
 // steps it has and how many gaps.
@@ -57,13 +62,20 @@ pub(crate) fn index_after(start: usize, steps: usize, backwards: bool) -> usize
 }
 
 // The place of the pixel where a stand is.
-fn place_of(sight: Sight, stand: Stand) -> usize
+fn place_of(scan: Scan, sight: Sight, stand: Stand) -> usize
+    requires { ⌜ (Sound scan) × (sight .frame ≡ frameOf (scan .width) (scan .height) (scan .index)) ⌝ }
     requires { ⌜ (KeptOn (sight .frame) (sight .plan .ranked)) × (PlanSound (sight .plan)) × (OnRow (sight .plan) stand) ⌝ }
     requires { ⌜ (sight .plan .lines ≡ sight .frame .lines) × (sight .plan .across ≡ sight .frame .across) ⌝ }
     ensures { λ r. ⌜ r ≡ placeKept (sight .frame) (sight .plan .ranked) (rowAt (sight .plan) (stand .state) (stand .row) + stand .pixel) ⌝ }
 {
-    let row = rows::row_of(sight.plan, stand.state, stand.row);
-    directions::place_kept(sight.frame, sight.plan.ranked, row.at + stand.pixel)
+    let row = row_in(sight.plan, stand.state, stand.row);
+    directions::place_kept(
+        scan.width,
+        scan.height,
+        scan.index,
+        sight.plan.ranked,
+        row.at + stand.pixel,
+    )
 }
 
 // The first of n numbers that is at least t, or n where none is.
@@ -98,7 +110,7 @@ fn find_among(
 {
     let mut row = first;
     while row < past {
-        let r = rows::row_of(plan, state, row);
+        let r = row_in(plan, state, row);
         let at = base + row * (plan.planes * plan.across) + gaps * plan.across + r.lo;
         let x = first_of(work, at, r.hi - r.lo, t);
         if x < r.hi - r.lo {
@@ -127,7 +139,7 @@ fn find_end(work: &[u16], base: usize, plan: Plan, steps: usize, gaps: usize, t:
     ensures { λ r. ⌜ Picked (OfSteps plan steps) (storedAt (now (work .entry)) base plan) plan gaps t r ⌝ }
 {
     if plan.ranked {
-        let rows = rows::rows_in(plan, steps);
+        let rows = plans::rows_in(plan, steps);
         return find_among(work, base, plan, steps, 0, rows, gaps, t);
     }
     find_among(work, base, plan, 0, steps, steps + 1, gaps, t)
@@ -168,7 +180,7 @@ fn looked(
         pixel: plan.across,
         gaps: gaps,
     };
-    let r = rows::row_of(plan, state, row);
+    let r = row_in(plan, state, row);
     if past <= r.lo {
         return none;
     }
@@ -285,11 +297,11 @@ fn walk_in(
     let mut stand = end;
     let mut n = walk.steps;
     while n > 0 {
-        let place = place_of(sight, stand);
+        let place = place_of(scan, sight, stand);
         let i = index_after(walk.start, n, backwards);
         path[i] = place;
         let left = gaps_after(
-            frames::key_by(scan.mode, plate[place]),
+            frames::key_by(scan.setting.mode, plate[place]),
             walk.key,
             stand.gaps,
         );
@@ -299,7 +311,7 @@ fn walk_in(
             pixel: stand.pixel,
             gaps: left,
         };
-        stack = states::fetch(
+        stack = fetch(
             work,
             marks,
             held,
@@ -308,7 +320,7 @@ fn walk_in(
             stack,
             wanted(plan, stand.state),
         );
-        stand = nearer(work, states::top_of(plan, stack), plan, here, walk.key);
+        stand = nearer(work, top_of(plan, stack), plan, here, walk.key);
         n -= 1;
     }
 }
@@ -323,7 +335,7 @@ fn follow_counted(
     walk: Walk,
 )
     requires { ⌜ (Sound scan) × (1 ≤ walk .key) ⌝ }
-    requires { ⌜ (length (now plate) ≡ scan .width * scan .height) × (4 * (scan .gaps + 1) * (scan .width * scan .height) ≤ length (now work)) × (walk .steps ≤ scan .steps) × (walk .gaps ≤ scan .gaps) ⌝ }
+    requires { ⌜ (length (now plate) ≡ scan .width * scan .height) × (4 * (scan .setting .gaps + 1) * (scan .width * scan .height) ≤ length (now work)) × (walk .steps ≤ scan .steps) × (walk .gaps ≤ scan .setting .gaps) ⌝ }
     requires { ⌜ Levels (now plate) ⌝ }
     requires { ⌜ (length (now path) ≤ 65536) × (walk .start < length (now path)) ⌝ }
     requires { ⌜ Within backwards (length (now path)) (walk .start) (walk .steps) ⌝ }
@@ -337,14 +349,14 @@ fn follow_counted(
     let start = walk.start;
     let sight = sight_of(scan, backwards, path[start]);
     let plan = sight.plan;
-    directions::fill_keys(work, plate, sight.frame, plan.ranked, scan.mode);
+    lay_keys(work, plate, scan, plan.ranked);
     let base = plan.lines * plan.across;
     let empty = Stack {
         base: base,
         places: places_in(work.len() - base, plan.rows * (plan.planes * plan.across)),
         depth: 0,
     };
-    let stack = states::fetch(
+    let stack = fetch(
         work,
         &mut marks,
         &mut held,
@@ -353,7 +365,7 @@ fn follow_counted(
         empty,
         wanted(plan, walk.steps + 1),
     );
-    let top = states::top_of(plan, stack);
+    let top = top_of(plan, stack);
     let end = find_end(work, top, plan, walk.steps, walk.gaps, walk.key);
     walk_in(
         path,
@@ -382,7 +394,7 @@ pub(crate) fn follow(
     walk: Walk,
 )
     requires { ⌜ Sound scan ⌝ }
-    requires { ⌜ (length (now plate) ≡ scan .width * scan .height) × (4 * (scan .gaps + 1) * (scan .width * scan .height) ≤ length (now work)) × (walk .steps ≤ scan .steps) × (walk .gaps ≤ scan .gaps) ⌝ }
+    requires { ⌜ (length (now plate) ≡ scan .width * scan .height) × (4 * (scan .setting .gaps + 1) * (scan .width * scan .height) ≤ length (now work)) × (walk .steps ≤ scan .steps) × (walk .gaps ≤ scan .setting .gaps) ⌝ }
     requires { ⌜ Levels (now plate) ⌝ }
     requires { ⌜ (length (now path) ≤ 65536) × (walk .start < length (now path)) ⌝ }
     requires { ⌜ Within backwards (length (now path)) (walk .start) (walk .steps) ⌝ }

@@ -21,6 +21,7 @@ mod onward;
 mod scan;
 mod shown;
 mod sight;
+mod taken;
 mod usable;
 
 use crate::shown::show;

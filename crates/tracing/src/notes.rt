@@ -3,18 +3,22 @@
 ghost use mathlib.Core.Path.{_≡_};
 ghost use Prim.Native.Nat.{ℕ, _+_, _-_, _*_, _≤_, _<_};
 ghost use lib.ListN.{length, getD};
-ghost use Rattle.rows.specs.Runs.{Apart};
-ghost use Rattle.rows.specs.Plans.{rowsIn, rowSize, stateSize};
-ghost use Rattle.rows.specs.Plans.{Sound as SoundPlan};
+ghost use Rattle.states.specs.Runs.{Apart};
+ghost use Rattle.plans.specs.Plans.{rowsIn, rowSize, stateSize};
+ghost use Rattle.plans.specs.Plans.{Sound as SoundPlan};
 ghost use Rattle.directions.specs.Numbers.{stepsAt};
 ghost use Rattle.tracing.specs.Scans.{Sound, bitOf, keyOf};
 ghost use Rattle.tracing.specs.Noting.{Highest, Lifted, FromRow, FromState, NotesFit, rowCells, stateCells};
 ghost use Rattle.tracing.specs.Finding.{Noted, cells};
 ghost use Rattle.theory.specs.Modes.{Levels};
 use crate::scan::Scan;
+use crate::sight::lay_keys;
 use crate::sight::sight_of;
-use rows::Plan;
-use rows::Row;
+use crate::taken::advance;
+use crate::taken::fill_run;
+use crate::taken::row_in;
+use plans::Plan;
+use plans::Row;
 
 // The highest of n numbers, or v where that is higher.
 fn highest(work: &[u16], at: usize, n: usize, v: u16) -> u16
@@ -24,7 +28,7 @@ fn highest(work: &[u16], at: usize, n: usize, v: u16) -> u16
     let mut best = v;
     let mut x = 0;
     while x < n {
-        best = rows::max2(best, work[at + x]);
+        best = states::max2(best, work[at + x]);
         x += 1;
     }
     best
@@ -60,12 +64,12 @@ fn note_state(notes: &mut [u16], to: usize, work: &[u16], base: usize, plan: Pla
     requires { ⌜ (e < 65536) × (base ≤ 65536) × (base + stateSize plan ≤ length (now work)) × (NotesFit plan e to (length (now notes))) ⌝ }
     ensures { λ _. ⌜ Lifted (FromState plan (stateCells (now (work .entry)) base plan) to e (rowsIn plan e)) (now (notes .entry)) (now (notes .exit)) ⌝ }
 {
-    let rows = rows::rows_in(plan, e);
+    let rows = plans::rows_in(plan, e);
     let mut at = base;
     let mut m = 0;
     while m < rows {
         let steps = steps_in(plan, e, m);
-        let row = rows::row_of(plan, e, m);
+        let row = row_in(plan, e, m);
         note_row(notes, to + steps * plan.planes, work, at, plan, row);
         at += plan.planes * plan.across;
         m += 1;
@@ -84,10 +88,10 @@ pub(crate) fn note_side(
     x: usize,
 )
     requires { ⌜ Sound scan ⌝ }
-    requires { ⌜ (length (now plate) ≡ scan .width * scan .height) × (x < scan .width * scan .height) × (4 * (scan .gaps + 1) * (scan .width * scan .height) ≤ length (now work)) ⌝ }
-    requires { ⌜ (to + (scan .steps + 1) * (scan .gaps + 1) ≤ length (now notes)) × (length (now notes) < 65536) ⌝ }
-    ensures { λ _. ⌜ Noted (cells (now (notes .exit)) to) (scan .width) (scan .height) (bitOf scan) backwards (keyOf scan (now (plate .entry))) (scan .gaps) (scan .steps) x ⌝ }
-    ensures { λ _. ⌜ Apart (now (notes .entry)) (now (notes .exit)) to (to + (scan .steps + 1) * (scan .gaps + 1)) ⌝ }
+    requires { ⌜ (length (now plate) ≡ scan .width * scan .height) × (x < scan .width * scan .height) × (4 * (scan .setting .gaps + 1) * (scan .width * scan .height) ≤ length (now work)) ⌝ }
+    requires { ⌜ (to + (scan .steps + 1) * (scan .setting .gaps + 1) ≤ length (now notes)) × (length (now notes) < 65536) ⌝ }
+    ensures { λ _. ⌜ Noted (cells (now (notes .exit)) to) (scan .width) (scan .height) (bitOf scan) backwards (keyOf scan (now (plate .entry))) (scan .setting .gaps) (scan .steps) x ⌝ }
+    ensures { λ _. ⌜ Apart (now (notes .entry)) (now (notes .exit)) to (to + (scan .steps + 1) * (scan .setting .gaps + 1)) ⌝ }
     ensures { λ _. ⌜ Levels (now (plate .entry)) ⌝ }
 {
     let mut held = [0u16; 18612];
@@ -95,11 +99,11 @@ pub(crate) fn note_side(
     let sight = sight_of(scan, backwards, x);
     let plan = sight.plan;
     let base = plan.lines * plan.across;
-    directions::fill_keys(work, plate, sight.frame, plan.ranked, scan.mode);
-    rows::fill_run(notes, to, (scan.steps + 1) * (scan.gaps + 1), 0);
+    lay_keys(work, plate, scan, plan.ranked);
+    fill_run(notes, to, (scan.steps + 1) * (scan.setting.gaps + 1), 0);
     let mut e = 0;
     while e < sight.states {
-        states::advance(work, &mut held, &mut below, plan, e, base, base);
+        advance(work, &mut held, &mut below, plan, e, base);
         note_state(notes, to, work, base, plan, e);
         e += 1;
     }

@@ -1,17 +1,16 @@
 // One direction of a trace.
 ghost use mathlib.Core.Path.{_≡_};
-ghost use Prim.Native.Nat.{_-_, _*_, _^_, _≤_, _<_};
+ghost use Prim.Native.Nat.{_^_, _≤_, _<_};
 ghost use Rattle.plate.specs.Paths.{span};
+ghost use Rattle.plate.specs.Sizes.{GoodSize};
 ghost use Rattle.tracing.specs.Scans.{Sound, ScanOf};
 use plate::Setting;
 
 // What stays the same while one direction is looked at.
 pub(crate) struct Scan {
-    // 0 for the plate's levels, else their mirrors
-    pub(crate) mode: usize,
     pub(crate) width: usize,
     pub(crate) height: usize,
-    pub(crate) gaps: usize,
+    pub(crate) setting: Setting,
     // the direction's place in the step table
     pub(crate) index: usize,
     // the steps of a path: its length less one
@@ -20,6 +19,7 @@ pub(crate) struct Scan {
     pub(crate) spare: usize,
 }
 
+// The scan of the direction at this index, whose longest paths have this length.
 pub(crate) fn scan_of(
     width: usize,
     height: usize,
@@ -27,17 +27,16 @@ pub(crate) fn scan_of(
     index: usize,
     longest: usize,
 ) -> Scan
-    requires { ⌜ (1 ≤ width) × (width ≤ 1024) × (1 ≤ height) × (height ≤ 1024) × (width * height ≤ 65536) ⌝ }
+    requires { ⌜ GoodSize width height ⌝ }
     requires { ⌜ (1 ≤ setting .length) × (setting .length ≤ 1024) × (setting .gaps ≤ 8) × (index < 4) ⌝ }
     requires { ⌜ (longest ≡ span width height (2 ^ index)) × (longest ≤ 2047) × (setting .length ≤ longest) ⌝ }
     ensures { λ r. ⌜ Sound r ⌝ }
     ensures { λ r. ⌜ ScanOf r width height setting index ⌝ }
 {
     Scan {
-        mode: setting.mode,
         width: width,
         height: height,
-        gaps: setting.gaps,
+        setting: setting,
         index: index,
         steps: setting.length - 1,
         spare: longest - setting.length,

@@ -2,30 +2,17 @@
 ghost use mathlib.Core.Path.{_≡_};
 ghost use Prim.Native.Nat.{_<_};
 ghost use lib.ListN.{length};
-ghost use Rattle.plate.specs.Levels.{level};
 ghost use Rattle.plate.specs.Opening.{levelAt, filtered};
 ghost use Rattle.plate.specs.Refusals.{Verdict.accepted, Clear, traceChecks};
 ghost use Rattle.plate.specs.Answers.{tracedLevel, traceAfter};
 ghost use Rattle.theory.specs.Trace.{Shows};
 ghost use Rattle.tracing.specs.Usable.{FirstUsable};
-ghost use Rattle.theory.specs.Modes.{turned};
 use crate::draw::draw;
 use crate::find::find;
 use crate::scan::scan_of;
 use crate::usable::bit_of;
 use plate::Setting;
 use plate::Traced;
-
-// The level with this key, by the mode: in mode 1 keys are those of the mirrored levels.
-fn level_by(setting: Setting, key: u16) -> i16
-    ensures { λ r. ⌜ r ≡ turned setting (level key) ⌝ }
-{
-    let found = plate::level_of(key);
-    if setting.mode == 0 {
-        return found;
-    }
-    plate::mirrored(found)
-}
 
 // Finds the best path through the pixel x and draws it.
 pub(crate) fn show(
@@ -49,7 +36,7 @@ pub(crate) fn show(
     let scan = scan_of(width, height, setting, found.index, longest);
     draw(path, work, plate, scan, found, x);
     let direction = bit_of(found.index);
-    let level = level_by(setting, found.key);
+    let level = frames::level_by(setting.mode, found.key);
     Traced::Path {
         direction: direction,
         level: level,

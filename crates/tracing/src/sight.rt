@@ -1,40 +1,43 @@
-// One side of a direction, as it is seen from the picked pixel: the states of the walks that start there.
+// One side of a direction, as it is seen from the picked pixel, and the keys that its states read: the doors
+// of `directions`, by the scan.
+ghost use mathlib.Core.Path.{_≡_};
+ghost use mathlib.Core.Bool.{true};
 ghost use Prim.Native.Nat.{_*_, _<_};
+ghost use lib.ListN.{length};
+ghost use Rattle.directions.specs.Doors.{lays, Laid};
 ghost use Rattle.tracing.specs.Scans.{Sound};
 ghost use Rattle.tracing.specs.Sights.{Seen};
 use crate::scan::Scan;
-use directions::Course;
-use frames::Frame;
-use rows::Plan;
+use directions::Sight;
 
-// The states are numbered from the pixel on; `states` is how many there are.
-pub(crate) struct Sight {
-    pub(crate) frame: Frame,
-    pub(crate) plan: Plan,
-    pub(crate) states: usize,
-}
-
-// The walks on from the pixel at x, or back from it. A number tells the best walk from x to a pixel, and is
-// made of the numbers one step nearer to x: so walks on are swept by the steps back, and walks back by
-// those on.
+// The walks on from the pixel at x, or back from it.
 pub(crate) fn sight_of(scan: Scan, backwards: bool, x: usize) -> Sight
     requires { ⌜ Sound scan ⌝ }
     requires { ⌜ x < scan .width * scan .height ⌝ }
     ensures { λ r. ⌜ Seen scan backwards x r ⌝ }
 {
-    let frame = directions::frame_of(scan.width, scan.height, scan.index);
-    let rows = directions::by_rows(scan.width, scan.height, scan.index);
-    let spot = directions::spot_of(scan.width, scan.height, scan.index, frame, x);
-    let course = Course {
-        index: scan.index,
-        rows: rows,
-        back: !backwards,
-    };
-    let plan = directions::trace_plan(frame, course, scan.steps + 1, scan.gaps + 1, spot);
-    let states = directions::trace_states(frame, !backwards, scan.steps + 1, spot);
-    Sight {
-        frame: frame,
-        plan: plan,
-        states: states,
-    }
+    directions::sight_of(
+        scan.width,
+        scan.height,
+        scan.setting,
+        scan.index,
+        backwards,
+        x,
+    )
+}
+
+// The keys of the plate, by lines or by ranks.
+pub(crate) fn lay_keys(work: &mut [u16], plate: &[i16], scan: Scan, ranked: bool)
+    requires { ⌜ lays (scan .width) (scan .height) (scan .index) ranked (length (now plate)) (length (now work)) ≡ true ⌝ }
+    ensures { λ _. ⌜ Laid (scan .width) (scan .height) (scan .index) ranked (scan .setting .mode) (now (plate .entry)) (now (work .entry)) (now (work .exit)) ⌝ }
+{
+    directions::lay_keys(
+        work,
+        plate,
+        scan.width,
+        scan.height,
+        scan.index,
+        ranked,
+        scan.setting.mode,
+    );
 }

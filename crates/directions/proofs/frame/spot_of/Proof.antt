@@ -1,48 +1,53 @@
 -- `spot_of` meets its contract: the lines are rows or columns of the plate, and the row and the column of a place are its two digits.
 use mathlib.Core.Path.{sym, _∙_}
 use borrow.Author.Needs.{needs}
-use Rattle.directions.proofs.TraceLaws.{some-columns, row-on, column-on, line-on, pixel-on, spot-in-rows, spot-in-columns}
+use Rattle.directions.proofs.TraceLaws.{some-columns, row-on, column-on, line-on, pixel-on, spot-by-rows, spot-by-columns}
+use Rattle.directions.proofs.TableLaws.{frame-told}
 use Rattle.directions.proofs.frame.spot_of.Statement.{statement}
 use Rattle.directions.proofs.frame.spot_of.Tie as tie
 
 rem-column : tie.Need-rem-column
-rem-column c = some-columns _ _ _ (c .pre .2)
+rem-column c = some-columns _ _ _ (c .pre .3)
 
 div-row : tie.Need-div-row
-div-row c = some-columns _ _ _ (c .pre .2)
+div-row c = some-columns _ _ _ (c .pre .3)
 
 by-rows-requires : tie.Need-by-rows-requires
 by-rows-requires c κs = search needs
 
 turned-requires : tie.Need-turned-requires
 turned-requires c κs =
-    let s = c .before .before in row-on _ _ _ _ _ (s .pre .1) (s .pre .2) (sym (c .before .by-rows .ensures) ∙ c .if1 .taken)
+    let p = c .before .before .pre in
+    row-on _ _ _ _ _ (frame-told _ _ (p .0) _ _ (p .1) (p .2) .1) (p .3) (sym (c .before .by-rows .ensures) ∙ c .if1 .taken)
 
 turned-requires-2 : tie.Need-turned-requires-2
 turned-requires-2 c κs =
     let b = c .before .before in
-    column-on _ _ _ _ _ (b .before .pre .1) (b .before .pre .2) (sym (b .by-rows .ensures) ∙ c .before .if1 .taken)
+    let p = b .before .pre in
+    column-on _ _ _ _ _ (frame-told _ _ (p .0) _ _ (p .1) (p .2) .1) (p .3) (sym (b .by-rows .ensures) ∙ c .before .if1 .taken)
 
 returns : tie.Need-returns
 returns c =
     let b = c .before .before .before in
-    spot-in-rows _ _ _ _ _ (b .before .pre .1) (b .before .pre .2) (sym (b .by-rows .ensures) ∙ c .before .before .if1 .taken) _ _
-    (c .before .turned .ensures .0) (c .turned2 .ensures .0)
+    spot-by-rows _ _ _ _ _ _ _ (b .before .pre .2) (sym (b .by-rows .ensures) ∙ c .before .before .if1 .taken) (c .before .turned .ensures .0)
+    (c .turned2 .ensures .0)
 
 turned-requires-3 : tie.Need-turned-requires-3
 turned-requires-3 c κs =
-    let s = c .before .before in line-on _ _ _ _ _ (s .pre .1) (s .pre .2) (sym (c .before .by-rows .ensures) ∙ c .if1 .left)
+    let p = c .before .before .pre in
+    line-on _ _ _ _ _ (frame-told _ _ (p .0) _ _ (p .1) (p .2) .1) (p .3) (sym (c .before .by-rows .ensures) ∙ c .if1 .left)
 
 turned-requires-4 : tie.Need-turned-requires-4
 turned-requires-4 c κs =
     let b = c .before .before in
-    pixel-on _ _ _ _ _ (b .before .pre .1) (b .before .pre .2) (sym (b .by-rows .ensures) ∙ c .before .if1 .left)
+    let p = b .before .pre in
+    pixel-on _ _ _ _ _ (frame-told _ _ (p .0) _ _ (p .1) (p .2) .1) (p .3) (sym (b .by-rows .ensures) ∙ c .before .if1 .left)
 
 returns-2 : tie.Need-returns-2
 returns-2 c =
     let b = c .before .before .before in
-    spot-in-columns _ _ _ _ _ (b .before .pre .1) (b .before .pre .2) (sym (b .by-rows .ensures) ∙ c .before .before .if1 .left) _ _
-    (c .before .turned3 .ensures .0) (c .turned4 .ensures .0)
+    spot-by-columns _ _ _ _ _ _ _ (b .before .pre .2) (sym (b .by-rows .ensures) ∙ c .before .before .if1 .left) (c .before .turned3 .ensures .0)
+    (c .turned4 .ensures .0)
 
 pub spot-of-spec : {M : Type 1} → statement M
 spot-of-spec =

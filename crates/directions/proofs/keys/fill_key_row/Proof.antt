@@ -3,9 +3,9 @@ use Prim.Native.Nat.{ℕ, _+_, _-_, _≤_}
 use native.Mathlib.Omega.{arith}
 use Rattle.frames.specs.Keys.{keyBy}
 use Rattle.frames.proofs.KeyLaws.{level-read}
-use Rattle.rows.specs.Runs.{Between}
+use Rattle.states.specs.Runs.{Between}
 use Rattle.directions.specs.Numbers.{placeKept, keysBy, SmallKept}
-use Rattle.rows.proofs.RunLaws.{between-none, between-more, between-ends}
+use Rattle.states.proofs.RunLaws.{between-none, between-more, between-ends}
 use Rattle.directions.proofs.KeyRows.{pixel-within, place-on, place-found, key-found, small-none, small-more, small-ends}
 use Rattle.directions.proofs.keys.fill_key_row.Statement.{statement}
 use Rattle.directions.proofs.keys.fill_key_row.Tie as tie

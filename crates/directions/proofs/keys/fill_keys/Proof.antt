@@ -2,9 +2,9 @@
 use Prim.Native.Nat.{ℕ, _*_, _-_, _≤_}
 use mathlib.Core.Path.{_≡_, refl}
 use native.Mathlib.Omega.{arith}
-use Rattle.rows.specs.Runs.{Between}
+use Rattle.states.specs.Runs.{Between}
 use Rattle.directions.specs.Numbers.{placeKept, keysBy, SmallKept}
-use Rattle.rows.proofs.RunLaws.{between-none, between-ends}
+use Rattle.states.proofs.RunLaws.{between-none, between-ends}
 use Rattle.directions.proofs.KeyRows.{row-ends, next-row, last-row, kept-join, small-none, small-join, small-ends}
 use Rattle.directions.proofs.keys.fill_keys.Statement.{statement}
 use Rattle.directions.proofs.keys.fill_keys.Tie as tie

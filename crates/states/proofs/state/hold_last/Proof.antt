@@ -17,11 +17,11 @@ mul-fill-run c = search needs
 fill-run-requires : tie.Need-fill-run-requires
 fill-run-requires c κs = search needs
 
-sub-row-of : tie.Need-sub-row-of
-sub-row-of c = search needs
+sub-row-in : tie.Need-sub-row-in
+sub-row-in c = search needs
 
-row-of-requires : tie.Need-row-of-requires
-row-of-requires c κs =
+row-in-requires : tie.Need-row-in-requires
+row-in-requires c κs =
     let s = c .before .before .before in
     let a = s .args in
     (s .pre .0, (omega (arith, s .pre .1), row-before (a .plan) (a .e) _ (a .m) (s .pre .0) (omega arith) (s .pre .1 .1)))
@@ -45,7 +45,7 @@ load-row-requires : tie.Need-load-row-requires
 load-row-requires c κs =
     let s = c .before .before .before .before .before .before in
     let a = s .args in
-    let r = c .before .before .row-of in
+    let r = c .before .before .row-in in
     let row = row-before (a .plan) (a .e) (a .e - 1) (a .m) (s .pre .0) (omega arith) (s .pre .1 .1) in (
       row-fits (a .plan) _ (a .m) (r .result) (s .pre .0) (omega (arith, s .pre .1)) row (r .ensures .0) (r .ensures .1),
       s .pre .1 .2,
@@ -66,7 +66,7 @@ same-length-2 c = search needs
 returns-2 : tie.Need-returns-2
 returns-2 c =
     let s = c .before .before .before .before .before .before .before .before .before in
-    let r = c .before .before .before .before .before .row-of .ensures in
+    let r = c .before .before .before .before .before .row-in .ensures in
     let h = c .before .before .load-row .ensures in
     (last-some _ _ _ _ _ _ _ (s .pre .0) _ _ _ (s .args .e - 1) (omega arith) (s .pre .1 .1) (r .0) (r .1) refl (h .0), h .1)
 
@@ -77,8 +77,8 @@ hold-last-spec =
     add-fill-run
     mul-fill-run
     fill-run-requires
-    sub-row-of
-    row-of-requires
+    sub-row-in
+    row-in-requires
     mul-at
     mul-at-2
     add-at

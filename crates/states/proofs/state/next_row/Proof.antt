@@ -6,15 +6,15 @@ use mathlib.Core.Logic.{⊎-elim}
 use native.Mathlib.Omega.{arith}
 use borrow.Author.Needs.{needs}
 use lib.ListN.{length}
-use Rattle.rows.specs.Plans.{halfOf}
-use Rattle.rows.specs.Rows.{RowOf}
+use Rattle.plans.specs.Plans.{halfOf}
+use Rattle.states.specs.Rows.{RowOf}
 use Rattle.states.proofs.SizeLaws.{block-small, half-linked, half-room, row-fits, row-keyed}
 use Rattle.states.proofs.HoldingLaws.{Beside, TapsAt, beside-none, beside-some, slots-within, slotted-same, taps-fit, next-started, next-blended}
 use Rattle.states.proofs.state.next_row.Statement.{statement}
 use Rattle.states.proofs.state.next_row.Tie as tie
 
-row-of-requires : tie.Need-row-of-requires
-row-of-requires c κs = search needs
+row-in-requires : tie.Need-row-in-requires
+row-in-requires c κs = search needs
 
 add-block : tie.Need-add-block
 add-block c = search needs
@@ -56,16 +56,16 @@ beside j =
     (λ w. beside-none _ _ _ _ _ _ _ _ (w .0 .left) (w .1))
     (j .if1 .came)
 
-row-told : (j : tie.Joined1) → RowOf (start j .args .plan) (j .before .row-of .result)
+row-told : (j : tie.Joined1) → RowOf (start j .args .plan) (j .before .row-in .result)
 row-told j =
     let s = start j in
-    let r = j .before .row-of .ensures in
+    let r = j .before .row-in .ensures in
     row-fits _ _ _ _ (s .pre .0) (s .pre .1 .0 .0) (s .pre .1 .0 .1) (r .0) (r .1)
 
-keyed : (j : tie.Joined1) → j .before .row-of .result .at + start j .args .plan .across ≤ length (start j .args .work .now)
+keyed : (j : tie.Joined1) → j .before .row-in .result .at + start j .args .plan .across ≤ length (start j .args .work .now)
 keyed j =
     let s = start j in
-    let in-keys = row-keyed _ _ _ _ (s .pre .0) (s .pre .1 .0 .0) (s .pre .1 .0 .1) (j .before .row-of .ensures .2) in
+    let in-keys = row-keyed _ _ _ _ (s .pre .0) (s .pre .1 .0 .0) (s .pre .1 .0 .1) (j .before .row-in .ensures .2) in
     omega (arith, in-keys, s .pre .1 .0)
 
 -- ---- the needs that follow
@@ -82,7 +82,7 @@ returns : tie.Need-returns
 returns c =
     let j = c .before .before .before .before .before .before in
     let s = start j in
-    let r = j .before .row-of .ensures in
+    let r = j .before .row-in .ensures in
     let h = c .before .before .start-row .ensures in
     let starting = sym (c .before .before .before .before .before .starts-at .ensures) ∙ c .before .before .before .before .if2 .taken in
     (next-started _ _ _ _ _ _ _ _ _ (beside j) (h .1) (s .pre .1 .0 .1) starting _ _ _ (r .0) (r .1) (r .2) (h .0), refl)
@@ -136,7 +136,7 @@ returns-2 c =
     let t = b .before .before .before .before in
     let j = t .before .before .before .before .before in
     let s = start j in
-    let r = j .before .row-of .ensures in
+    let r = j .before .row-in .ensures in
     let h = b .blend-row .ensures in
     let later = sym (t .before .before .before .before .starts-at .ensures) ∙ t .before .before .before .if2 .left in (
       next-blended _ _ _ _ _ _ _ _ _ (s .pre .0) (s .pre .1 .1 .0) (beside j) (s .pre .1 .0 .0) (s .pre .1 .0 .1) later
@@ -148,7 +148,7 @@ pub next-row-spec : {M : Type 1} → statement M
 next-row-spec =
     tie.close
     (tie.spec
-    row-of-requires
+    row-in-requires
     add-block
     mul-block
     add-hold-last

@@ -1,5 +1,5 @@
 -- `starts_at` meets its contract: it tells the two kinds of plans apart as the definition does.
-use Rattle.rows.specs.Plans.{starts}
+use Rattle.plans.specs.Plans.{starts}
 use Rattle.states.proofs.state.starts_at.Statement.{statement}
 use Rattle.states.proofs.state.starts_at.Tie as tie
 

@@ -19,7 +19,7 @@ scan-of-requires c κs =
     let g = p .size in
     let e = c .span-of .ensures in
     let n = e ∙ span-good g (a .index) (s .pre .1 .1) in (
-      (g .wide, g .narrow, g .high, g .low, g .few),
+      g,
       (
         (p .long, p .short, p .few-gaps, s .pre .1 .1),
         (n, omega (arith, e, span-bound g (a .index) (s .pre .1 .1)), omega (arith, n, usable-long (a .width) (a .height) (a .setting) (a .index) (s .pre .1 .1) (s .pre .1 .2))),

@@ -35,7 +35,7 @@ slice-aggregate-note-side c = search needs
 note-side-requires : tie.Need-note-side-requires
 note-side-requires c κs =
     let s = c .before .before .before .before .before .before .before in
-    let small = notes-small (s .args .scan .steps) (s .args .scan .gaps) (s .pre .0 .few-steps) (s .pre .0 .few) in (s .pre .0, (s .pre .1, (omega (arith, small), omega arith)))
+    let small = notes-small (s .args .scan .steps) (s .args .scan .setting .gaps) (s .pre .0 .few-steps) (s .pre .0 .few) in (s .pre .0, (s .pre .1, (omega (arith, small), omega arith)))
 
 slice-aggregate-note-side-2 : tie.Need-slice-aggregate-note-side-2
 slice-aggregate-note-side-2 c = search needs
@@ -44,7 +44,7 @@ note-side-requires-2 : tie.Need-note-side-requires-2
 note-side-requires-2 c κs =
     let s = c .before .before .before .before .before .before .before .before .before .before .before .before .before in
     let n = c .before .before .before .before .before .note-side in
-    let small = notes-small (s .args .scan .steps) (s .args .scan .gaps) (s .pre .0 .few-steps) (s .pre .0 .few) in (
+    let small = notes-small (s .args .scan .steps) (s .args .scan .setting .gaps) (s .pre .0 .few-steps) (s .pre .0 .few) in (
       s .pre .0,
       (
         (s .pre .1 .0, s .pre .1 .1, omega (arith, s .pre .1 .2, n .kept .1 .1 .0)),
@@ -66,7 +66,7 @@ search-requires c κs =
     let s =
     c .before .before .before .before .before .before .before .before .before .before .before .before .before .before .before .before .before .before in
     let a = s .args in
-    let small = notes-small (a .scan .steps) (a .scan .gaps) (s .pre .0 .few-steps) (s .pre .0 .few) in (
+    let small = notes-small (a .scan .steps) (a .scan .setting .gaps) (s .pre .0 .few-steps) (s .pre .0 .few) in (
       (
         omega (arith, s .pre .0 .short),
         s .pre .0 .few,
@@ -86,13 +86,13 @@ returns c =
     let own = c .before .before .before .before .before .before .before .before .before .before .before .before .before .before .before .key-by in
     let ends = c .before .before .before .before .before .before .before .before .before .before .before .note-side in
     let goes = c .before .before .before .before .before .note-side2 in
-    let small = notes-small (a .scan .steps) (a .scan .gaps) (s .pre .0 .few-steps) (s .pre .0 .few) in
+    let small = notes-small (a .scan .steps) (a .scan .setting .gaps) (s .pre .0 .few-steps) (s .pre .0 .few) in
     let is-own = key-read (a .scan) (a .plate .now) (a .x) (own .result) (c .before .before .before .before .before .before .before .before .before .before .before .before .before .before .before .before .key-by-arg .given) (omega (arith, s .pre .1)) (own .ensures) in
-    let ends′ = noted-apart (a .scan .width) (a .scan .height) (bitOf (a .scan)) true (keyOf (a .scan) (a .plate .now)) (a .scan .gaps) (a .scan .steps) (a .x) 0 9216 _ _ _
+    let ends′ = noted-apart (a .scan .width) (a .scan .height) (bitOf (a .scan)) true (keyOf (a .scan) (a .plate .now)) (a .scan .setting .gaps) (a .scan .steps) (a .x) 0 9216 _ _ _
     (goes .ensures .1 .0) (omega (arith, small)) (ends .ensures .0) in (
-      searched-found (a .scan .width) (a .scan .height) (a .scan .steps) (a .scan .gaps) (a .scan .spare) (keyOf (a .scan) (a .plate .now)) (a .x)
+      searched-found (a .scan .width) (a .scan .height) (a .scan .steps) (a .scan .setting .gaps) (a .scan .spare) (keyOf (a .scan) (a .plate .now)) (a .x)
           (a .scan .index)
-          (s .pre .0 .known) (s .pre .1 .1) (s .pre .0 .long) _ (record { ends = 0; goes = 9216; steps = a .scan .steps; gaps = a .scan .gaps })
+          (s .pre .0 .known) (s .pre .1 .1) (s .pre .0 .long) _ (record { ends = 0; goes = 9216; steps = a .scan .steps; gaps = a .scan .setting .gaps })
           (own .result) refl refl is-own
           ends′ (goes .ensures .0) (a .found) (c .search .result) (rw
           (c .before .before .before .before .before .before .before .before .before .before .before .before .before .before .rank-of .ensures) at (c .search .ensures)),

@@ -5,12 +5,12 @@ use mathlib.Core.Path.{_≡_, refl, sym, _∙_}
 use native.Mathlib.Omega.{arith}
 use borrow.Author.Needs.{needs}
 use lib.ListN.{length, getD, replicate}
-use Rattle.rows.specs.Plans.{halfOf}
-use Rattle.rows.specs.declared.plan.Plan.{Plan}
-use Rattle.states.specs.declared.stack.Stack.{Stack}
-use Rattle.states.proofs.StackLaws.{row-below, state-below}
+use Rattle.plans.specs.Plans.{halfOf}
+use Rattle.plans.specs.declared.plan.Plan.{Plan}
+use Rattle.sweeps.specs.declared.stack.Stack.{Stack}
+use Rattle.sweeps.proofs.StackLaws.{row-below, state-below}
 use Rattle.tracing.specs.Following.{Kept, HeldFit}
-use Rattle.tracing.proofs.Sighting.{sight-planes, sight-keys-size, sight-sound, sight-room, sight-states-few, sight-kept}
+use Rattle.tracing.proofs.Sighting.{sight-planes, sight-keys-size, sight-formed, sight-sound, sight-room, sight-states-few, sight-lays}
 use Rattle.tracing.proofs.Walking.{empty-fits, kept-empty, kept-fetched, top-held, top-within, wanted-some, end-few, end-row, end-stands}
 use Rattle.tracing.proofs.follow.follow_counted.Statement.{statement}
 use Rattle.tracing.proofs.follow.follow_counted.Tie as tie
@@ -20,18 +20,18 @@ start-kept :
     (c : tie.After-wanted) →
     let a = c .before .before .before .before .before .before .before .before .before .before .before .before .before .before .before .before .before .before .before .args in
     let v = c .before .before .before .before .before .before .before .before .before .before .before .before .before .before .before .sight-of in
-    Kept (a .scan) (a .backwards) (a .plate .now) (getD (a .path .now) (a .walk .start) 0) (v .result) (c .before .before .before .before .before .before .before .before .before .before .before .before .fill-keys .last .0) (replicate 64 0)
+    Kept (a .scan) (a .backwards) (a .plate .now) (getD (a .path .now) (a .walk .start) 0) (v .result) (c .before .before .before .before .before .before .before .before .before .before .before .before .lay-keys .last .0) (replicate 64 0)
     (record { base = v .result .plan .lines * v .result .plan .across; places = c .before .before .before .before .before .before .places-in .result; depth = 0 })
 start-kept c =
     let s = c .before .before .before .before .before .before .before .before .before .before .before .before .before .before .before .before .before .before .before in
     let a = s .args in
     let v = c .before .before .before .before .before .before .before .before .before .before .before .before .before .before .before .sight-of in
     let x = getD (a .path .now) (a .walk .start) 0 in
-    let k = c .before .before .before .before .before .before .before .before .before .before .before .before .fill-keys in
+    let k = c .before .before .before .before .before .before .before .before .before .before .before .before .lay-keys in
     let o = c .before .before .before .before .before .before .places-in .ensures in
-    let room = sight-room (a .scan) (s .pre .0 .0) (a .backwards) x (v .result) (v .ensures) (length (k .last .0)) (omega (arith, s .pre .1 .0 .1, k .ensures .0 .len)) in
+    let room = sight-room (a .scan) (s .pre .0 .0) (a .backwards) x (v .result) (v .ensures) (length (k .last .0)) (omega (arith, s .pre .1 .0 .1, k .ensures .keys .len)) in
     let stack : Stack = record { base = v .result .plan .lines * v .result .plan .across; places = c .before .before .before .before .before .before .places-in .result; depth = 0 } in
-    kept-empty (a .scan) (a .backwards) (a .plate .now) x (v .result) (s .pre .0 .0) (v .ensures) (a .work .now) (k .last .0) (replicate 64 0) stack refl (k .ensures .0)
+    kept-empty (a .scan) (a .backwards) (a .plate .now) x (v .result) (s .pre .0 .0) (v .ensures) (a .work .now) (k .last .0) (replicate 64 0) stack refl (k .ensures)
     (empty-fits (a .scan) (a .backwards) (a .plate .now) x (v .result) (s .pre .0 .0) (v .ensures) (a .work .now) (k .last .0) (replicate 64 0) stack refl room refl (o .0) (o .1)
     (o .2) (o .1))
 
@@ -60,17 +60,15 @@ slice-read-sight-of c = search needs
 sight-of-requires : tie.Need-sight-of-requires
 sight-of-requires c κs = search needs
 
-fill-keys-requires : tie.Need-fill-keys-requires
-fill-keys-requires c κs =
+lay-keys-requires : tie.Need-lay-keys-requires
+lay-keys-requires c κs =
     let s = c .before .before .before .before .before .before in
     let a = s .args in
     let v = c .before .before .sight-of in
     let x = getD (a .path .now) (a .walk .start) 0 in
     let room = sight-room (a .scan) (s .pre .0 .0) (a .backwards) x (v .result) (v .ensures) (length (a .work .now)) (s .pre .1 .0 .1) in
-    let size = sight-keys-size (a .scan) (s .pre .0 .0) (a .backwards) x (v .result) (v .ensures) in (
-      sight-kept (a .scan) (s .pre .0 .0) (a .backwards) x (v .result) (v .ensures),
-      (omega (arith, room .alone, size), s .pre .1 .0 .0 ∙ sym (v .ensures .framed .area)),
-    )
+    let size = sight-keys-size (a .scan) (s .pre .0 .0) (a .backwards) x (v .result) (v .ensures) in
+    sight-lays (a .scan) (s .pre .0 .0) (a .backwards) x (v .result) (v .ensures) _ _ (s .pre .1 .0 .0) (omega (arith, room .alone, size, v .ensures .framed .area))
 
 mul-base : tie.Need-mul-base
 mul-base c =
@@ -87,7 +85,7 @@ sub-places-in c =
     omega (
       arith,
       sight-room (a .scan) (s .pre .0 .0) (a .backwards) (getD (a .path .now) (a .walk .start) 0) (v .result) (v .ensures) (length (a .work .now)) (s .pre .1 .0 .1) .alone,
-      c .before .before .before .fill-keys .ensures .0 .len,
+      c .before .before .before .lay-keys .ensures .keys .len,
     )
 
 mul-places-in : tie.Need-mul-places-in
@@ -110,7 +108,7 @@ places-in-requires c κs =
     let a = s .args in
     let v = c .before .before .before .before .before .before .before .before .sight-of in
     let room = sight-room (a .scan) (s .pre .0 .0) (a .backwards) (getD (a .path .now) (a .walk .start) 0) (v .result) (v .ensures) (length (a .work .now)) (s .pre .1 .0 .1) in
-    (room .some, omega (arith, room .alone, c .before .before .before .before .before .fill-keys .ensures .0 .len))
+    (room .some, omega (arith, room .alone, c .before .before .before .before .before .lay-keys .ensures .keys .len))
 
 slice-aggregate-fetch : tie.Need-slice-aggregate-fetch
 slice-aggregate-fetch c = search needs
@@ -135,7 +133,7 @@ fetch-requires c κs =
     let v = c .before .before .before .before .before .before .before .before .before .before .before .before .before .before .before .sight-of in
     let x = getD (a .path .now) (a .walk .start) 0 in
     let room = sight-room (a .scan) (s .pre .0 .0) (a .backwards) x (v .result) (v .ensures) (length (a .work .now)) (s .pre .1 .0 .1) in (
-      sight-sound (a .scan) (s .pre .0 .0) (a .backwards) x (v .result) (v .ensures),
+      sight-formed (a .scan) (s .pre .0 .0) (a .backwards) x (v .result) (v .ensures),
       (
         (start-kept c .fits, omega (arith, few-wanted c, sight-states-few (a .scan) (s .pre .0 .0) (a .backwards) x (v .result) (v .ensures))),
         (room .halves, omega arith, room .row),
@@ -149,7 +147,7 @@ top-of-requires c κs =
     let v = c .before .before .before .before .before .before .before .before .before .before .before .before .before .before .before .before .before .before .before .before .before .sight-of in
     let f = c .before .before .before .before .before .fetch in
     let fits = start-kept (c .before .before .before .before .before .before) .fits in (
-      sight-sound (a .scan) (s .pre .0 .0) (a .backwards) (getD (a .path .now) (a .walk .start) 0) (v .result) (v .ensures),
+      sight-formed (a .scan) (s .pre .0 .0) (a .backwards) (getD (a .path .now) (a .walk .start) 0) (v .result) (v .ensures),
       omega (arith, f .ensures .0 .2, fits .few),
       omega (arith, f .ensures .0 .0, fits .near),
     )
@@ -222,7 +220,7 @@ same-length c = search needs
 
 same-length-2 : tie.Need-same-length-2
 same-length-2 c =
-    c .before .before .before .before .before .before .before .walk-in .kept .1 .0 ∙ c .before .before .before .before .before .before .before .before .before .before .before .before .before .before .before .before .before .before .before .before .before .fetch .kept .0 ∙ c .before .before .before .before .before .before .before .before .before .before .before .before .before .before .before .before .before .before .before .before .before .before .before .before .before .before .before .before .before .before .before .before .before .before .fill-keys .ensures .0 .len
+    c .before .before .before .before .before .before .before .walk-in .kept .1 .0 ∙ c .before .before .before .before .before .before .before .before .before .before .before .before .before .before .before .before .before .before .before .before .before .fetch .kept .0 ∙ c .before .before .before .before .before .before .before .before .before .before .before .before .before .before .before .before .before .before .before .before .before .before .before .before .before .before .before .before .before .before .before .before .before .before .lay-keys .ensures .keys .len
 
 returns : tie.Need-returns
 returns c = search needs
@@ -234,7 +232,7 @@ follow-counted-spec =
     mul-sight-of
     slice-read-sight-of
     sight-of-requires
-    fill-keys-requires
+    lay-keys-requires
     mul-base
     sub-places-in
     mul-places-in

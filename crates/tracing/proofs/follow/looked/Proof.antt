@@ -2,26 +2,26 @@
 use mathlib.Core.Path.{refl}
 use native.Mathlib.Omega.{arith}
 use borrow.Author.Needs.{needs}
-use Rattle.rows.proofs.PlanSizes.{part-fits}
+use Rattle.plans.proofs.PlanSizes.{part-fits}
 use Rattle.states.proofs.SizeLaws.{row-within}
-use Rattle.states.proofs.StackLaws.{row-below}
+use Rattle.sweeps.proofs.StackLaws.{row-below}
 use Rattle.tracing.proofs.Picking.{looked-under, looked-over, looked-low, looked-high}
 use Rattle.tracing.proofs.follow.looked.Statement.{statement}
 use Rattle.tracing.proofs.follow.looked.Tie as tie
 
-row-of-requires : tie.Need-row-of-requires
-row-of-requires c κs = search needs
+row-in-requires : tie.Need-row-in-requires
+row-in-requires c κs = search needs
 
 returns : tie.Need-returns
 returns c =
     let a = c .before .before .before .before .args in
-    let o = c .before .before .row-of .ensures in
+    let o = c .before .before .row-in .ensures in
     looked-under (a .work .now) (a .base) (a .plan) (a .state) (a .row) (a .past) (a .gaps) (a .t) _ refl _ _ (o .0) (o .1) (omega arith) (c .if1 .taken)
 
 returns-2 : tie.Need-returns-2
 returns-2 c =
     let a = c .before .before .before .before .before .before .args in
-    let o = c .before .before .before .before .row-of .ensures in
+    let o = c .before .before .before .before .row-in .ensures in
     looked-over (a .work .now) (a .base) (a .plan) (a .state) (a .row) (a .past) (a .gaps) (a .t) _ refl _ _ (o .0) (o .1) (omega arith) (c .if2 .taken)
 
 mul-at : tie.Need-mul-at
@@ -62,7 +62,7 @@ add-if3 c =
       s .pre .1 .3,
       s .good,
       s .pre .0 .fits (s .args .state) (s .args .row) (s .pre .1 .1) (s .pre .1 .0) .wide,
-      c .before .before .before .before .before .before .row-of .ensures .1,
+      c .before .before .before .before .before .before .row-in .ensures .1,
       c .before .before .if2 .left,
     )
 
@@ -77,7 +77,7 @@ mul-if3 c =
       s .pre .1 .3,
       s .good,
       s .pre .0 .fits (s .args .state) (s .args .row) (s .pre .1 .1) (s .pre .1 .0) .wide,
-      c .before .before .before .before .before .before .row-of .ensures .1,
+      c .before .before .before .before .before .before .row-in .ensures .1,
       c .before .before .if2 .left,
       c .before .before .before .before .if1 .left,
     )
@@ -92,7 +92,7 @@ shared-slice-read-if3 c =
       part-fits p (s .args .gaps) (s .pre .1 .2),
       s .pre .1 .3,
       s .pre .0 .fits (s .args .state) (s .args .row) (s .pre .1 .1) (s .pre .1 .0) .wide,
-      c .before .before .before .before .before .before .before .row-of .ensures .1,
+      c .before .before .before .before .before .before .before .row-in .ensures .1,
       c .before .before .before .if2 .left,
       c .before .before .before .before .before .if1 .left,
     )
@@ -100,7 +100,7 @@ shared-slice-read-if3 c =
 returns-3 : tie.Need-returns-3
 returns-3 c =
     let a = c .before .before .before .before .before .before .before .before .before .before .args in
-    let o = c .before .before .before .before .before .before .before .before .row-of .ensures in
+    let o = c .before .before .before .before .before .before .before .before .row-in .ensures in
     looked-low (a .work .now) (a .base) (a .plan) (a .state) (a .row) (a .past) (a .gaps) (a .t) _ refl _ _ (o .0) (o .1) _ _ refl refl (c .before .before .before .before .before .before .if1 .left) (omega arith) (c .if3 .taken)
 
 sub-t14 : tie.Need-sub-t14
@@ -110,7 +110,7 @@ returns-4 : tie.Need-returns-4
 returns-4 c =
     let s = c .before .before .before .before .before .before .before .before .before .before in
     let a = s .args in
-    let o = c .before .before .before .before .before .before .before .before .row-of .ensures in
+    let o = c .before .before .before .before .before .before .before .before .row-in .ensures in
     looked-high (a .work .now) (a .base) (a .plan) (a .state) (a .row) (a .past) (a .gaps) (a .t) _ refl _ _ (o .0) (o .1) _ _ refl refl (c .before .before .before .before .before .before .if1 .left) refl refl refl
     (s .pre .1 .1) (c .before .before .before .before .if2 .left) (omega (arith, o .1, s .pre .0 .fits (a .state) (a .row) (s .pre .1 .1) (s .pre .1 .0) .wide)) (c .if3 .left)
 
@@ -118,7 +118,7 @@ pub looked-spec : {M : Type 1} → statement M
 looked-spec =
     tie.close
     (tie.spec
-    row-of-requires
+    row-in-requires
     returns
     returns-2
     mul-at

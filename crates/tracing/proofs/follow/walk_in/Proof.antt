@@ -9,7 +9,7 @@ use Rattle.theory.specs.BestWalks.{under}
 use Rattle.tracing.proofs.Trails.{index-within, within-less, within-back, within-few}
 use Rattle.tracing.proofs.Inward.{Inward, inward-far}
 use Rattle.tracing.proofs.Modes.{key-read}
-use Rattle.tracing.proofs.Sighting.{sight-lines, sight-across, sight-sound, sight-states-few, sight-kept}
+use Rattle.tracing.proofs.Sighting.{sight-lines, sight-across, sight-formed, sight-sound, sight-states-few, sight-kept}
 use Rattle.tracing.proofs.Nearing.{placeOf, stand-row, stand-on}
 use Rattle.tracing.proofs.Walking.{kept-fetched, top-held, top-within, stand-wanted, stand-some, stand-spends, walk-on, walk-ends}
 use Rattle.tracing.proofs.follow.walk_in.Statement.{statement}
@@ -53,13 +53,16 @@ place-of-requires c κs =
     let x = getD (a .path .now) (a .walk .start) 0 in
     let l = c .before .loop in
     let v = s .pre .1 .1 .1 .0 .1 in (
+      (s .pre .0 .0, v .is-frame),
       (
-        sight-kept (a .scan) (s .pre .0 .0) (a .backwards) x (a .sight) v,
-        sight-sound (a .scan) (s .pre .0 .0) (a .backwards) x (a .sight) v,
-        stand-row (a .scan) (a .backwards) (a .plate .now) x (a .sight) (s .pre .0 .0) (s .pre .0 .2) v (a .walk .key) (s .pre .0 .3) (l .n) (l .stand) (l .inv .6)
-            (l .stand .gaps) (omega arith),
+        (
+          sight-kept (a .scan) (s .pre .0 .0) (a .backwards) x (a .sight) v,
+          sight-sound (a .scan) (s .pre .0 .0) (a .backwards) x (a .sight) v,
+          stand-row (a .scan) (a .backwards) (a .plate .now) x (a .sight) (s .pre .0 .0) (s .pre .0 .2) v (a .walk .key) (s .pre .0 .3) (l .n) (l .stand) (l .inv .6)
+              (l .stand .gaps) (omega arith),
+        ),
+        (sight-lines (a .scan) (s .pre .0 .0) (a .backwards) x (a .sight) v, sight-across (a .scan) (s .pre .0 .0) (a .backwards) x (a .sight) v),
       ),
-      (sight-lines (a .scan) (s .pre .0 .0) (a .backwards) x (a .sight) v, sight-across (a .scan) (s .pre .0 .0) (a .backwards) x (a .sight) v),
     )
 
 index-after-requires : tie.Need-index-after-requires Inv-loop μ-loop
@@ -97,7 +100,7 @@ mul-key-by c =
     let on =
     stand-on (a .scan) (a .backwards) (a .plate .now) (getD (a .path .now) (a .walk .start) 0) (a .sight) (s .pre .0 .0) (s .pre .0 .2) (s .pre .1 .1 .1 .0 .1) (a .walk .key)
     (s .pre .0 .3) (l .n) (l .stand) (l .inv .6) in
-    omega (arith, on, c .before .place-of .ensures, s .pre .0 .0 .small)
+    omega (arith, on, c .before .place-of .ensures, s .pre .0 .0 .size .few)
 
 shared-slice-copy-out-key-by : tie.Need-shared-slice-copy-out-key-by Inv-loop μ-loop
 shared-slice-copy-out-key-by c =
@@ -142,7 +145,7 @@ fetch-requires c κs =
     let few =
     stand-wanted (a .scan) (a .backwards) (a .plate .now) x (a .sight) (s .pre .0 .0) v (s .pre .0 .2) (a .walk .key) (s .pre .0 .3) (a .path .now) (a .walk .start) (a .walk .steps)
     (a .walk .gaps) (s .pre .1 .1 .0) (l .path) (l .stand) (l .n) (l .inv .6) in (
-      sight-sound (a .scan) (s .pre .0 .0) (a .backwards) x (a .sight) v,
+      sight-formed (a .scan) (s .pre .0 .0) (a .backwards) x (a .sight) v,
       (
         (l .inv .5 .fits, omega (arith, c .wanted .ensures, few, sight-states-few (a .scan) (s .pre .0 .0) (a .backwards) x (a .sight) v)),
         (omega (arith, fits .halves, l .inv .3), omega (arith, fits .few, l .inv .3), omega (arith, fits .row, l .inv .4)),
@@ -155,7 +158,7 @@ top-of-requires c κs =
     let a = s .args in
     let l = c .before .before .before .before .before .before .before .before .before .before .before .before .before .before .before .before .before .before .before .before .before .loop in
     let f = c .before .before .before .before .before .before .before .before .before .fetch in (
-      sight-sound (a .scan) (s .pre .0 .0) (a .backwards) (getD (a .path .now) (a .walk .start) 0) (a .sight) (s .pre .1 .1 .1 .0 .1),
+      sight-formed (a .scan) (s .pre .0 .0) (a .backwards) (getD (a .path .now) (a .walk .start) 0) (a .sight) (s .pre .1 .1 .1 .0 .1),
       omega (arith, f .ensures .0 .2, l .inv .5 .fits .few),
       omega (arith, f .ensures .0 .0, l .inv .5 .fits .near),
     )

@@ -1,11 +1,10 @@
 -- `note_side` meets its contract: at each turn one state more is made in the place of the last and noted.
 use Prim.Native.Nat.{_-_, _≤_, _<_}
 use mathlib.Core.Path.{_≡_, refl, sym, _∙_}
-use mathlib.Core.Logic.{inl}
 use native.Mathlib.Omega.{arith}
 use lib.ListN.{length}
 use Rattle.tracing.proofs.Noting.{SideNoted, side-none, side-more}
-use Rattle.tracing.proofs.Sighting.{sight-kept, sight-area, sight-keys-size, sight-room, sight-sound, sight-states-few, sight-keys, sight-levels, sight-sequence}
+use Rattle.tracing.proofs.Sighting.{sight-lays, sight-area, sight-keys-size, sight-room, sight-formed, sight-sound, sight-states-few, sight-keys, sight-levels, sight-sequence}
 use Rattle.tracing.proofs.SideNotes.{notes-fit, side-noted, side-apart}
 use Rattle.tracing.proofs.notes.note_side.Statement.{statement}
 use Rattle.tracing.proofs.notes.note_side.Tie as tie
@@ -32,15 +31,15 @@ mul-base c =
     let r = c .before .before .sight-of in
     omega (arith, sight-room (a .scan) (s .pre .0) (a .backwards) (a .x) (r .result) (r .ensures) _ (s .pre .1 .0 .2) .keys)
 
-fill-keys-requires : tie.Need-fill-keys-requires Inv-loop μ-loop
-fill-keys-requires c κs =
+lay-keys-requires : tie.Need-lay-keys-requires Inv-loop μ-loop
+lay-keys-requires c κs =
     let s = c .before .before .before .before .before .before in
     let a = s .args in
     let r = c .before .before .before .sight-of in
     let room = sight-room (a .scan) (s .pre .0) (a .backwards) (a .x) (r .result) (r .ensures) _ (s .pre .1 .0 .2) .alone in
     let size = sight-keys-size (a .scan) (s .pre .0) (a .backwards) (a .x) (r .result) (r .ensures) in
     let area = sight-area (a .scan) (s .pre .0) (a .backwards) (a .x) (r .result) (r .ensures) in
-    (sight-kept (a .scan) (s .pre .0) (a .backwards) (a .x) (r .result) (r .ensures), (omega (arith, room, size), omega (arith, area, s .pre .1 .0 .0)))
+    sight-lays (a .scan) (s .pre .0) (a .backwards) (a .x) (r .result) (r .ensures) _ _ (s .pre .1 .0 .0) (omega (arith, room, size, area))
 
 add-fill-run : tie.Need-add-fill-run Inv-loop μ-loop
 add-fill-run c = omega (arith, c .before .before .before .before .before .before .before .before .before .before .before .pre .0 .few-steps)
@@ -73,12 +72,12 @@ advance-requires c κs =
     let l = i .loop in
     let room = sight-room (a .scan) (s .pre .0) (a .backwards) (a .x) (r .result) (r .ensures) _ (s .pre .1 .0 .2) in
     let few = sight-states-few (a .scan) (s .pre .0) (a .backwards) (a .x) (r .result) (r .ensures) in
-    let same = l .inv .1 ∙ i .before .before .before .before .before .before .before .before .before .fill-keys .kept .0 in
+    let same = l .inv .1 ∙ i .before .before .before .before .before .before .before .before .before .lay-keys .kept .0 in
     let e : l .e < r .result .states = c .before .before .before .if1 .taken in (
-      sight-sound (a .scan) (s .pre .0) (a .backwards) (a .x) (r .result) (r .ensures),
+      sight-formed (a .scan) (s .pre .0) (a .backwards) (a .x) (r .result) (r .ensures),
       (
-        (omega (arith, few, e), omega arith, omega arith, omega (arith, room .alone, same), omega (arith, room .alone, same)),
-        (inl refl, (omega (arith, room .halves, l .inv .2), omega (arith, l .inv .2), omega (arith, room .row, l .inv .3))),
+        (omega (arith, few, e), omega arith, omega (arith, room .alone, same)),
+        (omega (arith, room .halves, l .inv .2), omega (arith, l .inv .2), omega (arith, room .row, l .inv .3)),
       ),
     )
 
@@ -92,7 +91,7 @@ note-state-requires c κs =
     let l = i .loop in
     let room = sight-room (a .scan) (s .pre .0) (a .backwards) (a .x) (r .result) (r .ensures) _ (s .pre .1 .0 .2) in
     let few = sight-states-few (a .scan) (s .pre .0) (a .backwards) (a .x) (r .result) (r .ensures) in
-    let same = c .before .before .before .before .before .before .advance .kept .0 ∙ l .inv .1 ∙ i .before .before .before .before .before .before .before .before .before .fill-keys .kept .0 in
+    let same = c .before .before .before .before .before .before .advance .kept .0 ∙ l .inv .1 ∙ i .before .before .before .before .before .before .before .before .before .lay-keys .kept .0 in
     let e : l .e < r .result .states = c .before .before .before .before .before .before .before .before .before .before .if1 .taken in (
       sight-sound (a .scan) (s .pre .0) (a .backwards) (a .x) (r .result) (r .ensures),
       (
@@ -148,7 +147,7 @@ same-length : tie.Need-same-length Inv-loop μ-loop
 same-length c = c .before .before .loop .inv .4 ∙ c .before .before .before .before .before .fill-run .kept .0
 
 same-length-2 : tie.Need-same-length-2 Inv-loop μ-loop
-same-length-2 c = c .before .before .loop .inv .1 ∙ c .before .before .before .before .before .before .before .before .before .before .before .fill-keys .kept .0
+same-length-2 c = c .before .before .loop .inv .1 ∙ c .before .before .before .before .before .before .before .before .before .before .before .lay-keys .kept .0
 
 returns : tie.Need-returns Inv-loop μ-loop
 returns c =
@@ -157,10 +156,10 @@ returns c =
     let a = s .args in
     let r = o .sight-of in
     let l = c .before .before .loop in
-    let w = c .before .before .before .before .before .before .before .before .before .before .before .fill-keys in
-    let levels = sight-levels (a .scan) (s .pre .0) (a .backwards) (a .x) (r .result) (r .ensures) (a .plate .now) (s .pre .1 .0 .0) (w .ensures .1) in
+    let w = c .before .before .before .before .before .before .before .before .before .before .before .lay-keys in
+    let levels = sight-levels (a .scan) (s .pre .0) (a .backwards) (a .x) (r .result) (r .ensures) (a .plate .now) _ _ (s .pre .1 .0 .0) (w .ensures) in
     let all : l .e ≡ r .result .states = omega (arith, c .if1 .left, l .inv .0) in
-    let keys = sight-keys (a .scan) (s .pre .0) (a .backwards) (a .x) (r .result) (r .ensures) (a .plate .now) _ _ (w .ensures .0) in
+    let keys = sight-keys (a .scan) (s .pre .0) (a .backwards) (a .x) (r .result) (r .ensures) (a .plate .now) _ _ (w .ensures) in
     let noted =
     rw all at (l .inv .5 .is _ _ keys (sight-sequence (a .scan) (s .pre .0) (a .backwards) (a .x) (r .result) (r .ensures) (a .plate .now)) .1) in (
       side-noted (a .scan) (s .pre .0) (a .backwards) (a .x) (r .result) (r .ensures) (a .plate .now) levels (s .pre .1 .0 .1) (a .to) _ _ _
@@ -180,7 +179,7 @@ note-side-spec =
     μ-loop
     sight-of-requires
     mul-base
-    fill-keys-requires
+    lay-keys-requires
     add-fill-run
     add-fill-run-2
     mul-fill-run

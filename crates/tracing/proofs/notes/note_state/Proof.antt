@@ -4,9 +4,9 @@ use mathlib.Core.Path.{_≡_, refl, _∙_}
 use native.Mathlib.Nat.{add-mul}
 use native.Mathlib.Omega.{arith}
 use lib.ListN.{length}
-use Rattle.rows.specs.Plans.{rowsIn, rowSize}
+use Rattle.plans.specs.Plans.{rowsIn, rowSize}
 use Rattle.states.proofs.SizeLaws.{row-within}
-use Rattle.states.proofs.StackLaws.{row-below, state-below}
+use Rattle.sweeps.proofs.StackLaws.{row-below, state-below}
 use Rattle.tracing.specs.Noting.{Lifted, FromState, stateCells}
 use Rattle.tracing.proofs.Noting.{steps-fit, state-lifted-none, state-lifted-more, row-in-state}
 use Rattle.tracing.proofs.notes.note_state.Statement.{statement}
@@ -31,8 +31,8 @@ loop-holds c = (omega arith, omega arith, refl, state-lifted-none _ _ _ _ _)
 steps-in-requires : tie.Need-steps-in-requires Inv-loop μ-loop
 steps-in-requires c κs = tt
 
-row-of-requires : tie.Need-row-of-requires Inv-loop μ-loop
-row-of-requires c κs =
+row-in-requires : tie.Need-row-in-requires Inv-loop μ-loop
+row-in-requires c κs =
     let s = c .before .before .before .before .before .before in (s .pre .0, (s .pre .1 .0, omega (arith, c .before .loop-test .taken, c .before .before .before .rows-in .ensures)))
 
 mul-note-row : tie.Need-mul-note-row Inv-loop μ-loop
@@ -67,7 +67,7 @@ note-row-requires c κs =
     let below : l .m < rowsIn (a .plan) (a .e) =
     omega (arith, c .before .before .before .before .loop-test .taken, c .before .before .before .before .before .before .rows-in .ensures) in
     let fits = s .pre .0 .fits (a .e) (l .m) below (s .pre .1 .0) in
-    let row = c .before .before .row-of .ensures in
+    let row = c .before .before .row-in .ensures in
     let within = row-within (a .plan) (a .e) (l .m) below in (
       (omega (arith, row, fits .ordered), omega (arith, row, fits .wide), s .pre .0 .few-across, s .pre .0 .few-planes),
       (
@@ -119,7 +119,7 @@ loop-again c =
     let a = s .args in
     let l = c .before .before .before .before .before .before .before .before .before .loop in
     let n = c .before .before .before .note-row in
-    let row = c .before .before .before .before .before .before .row-of in (
+    let row = c .before .before .before .before .before .before .row-in in (
       omega (arith, c .before .before .before .before .before .before .before .before .loop-test .taken),
       omega (arith, l .inv .1, add-mul (l .m) 1 (rowSize (a .plan))),
       n .kept .0 ∙ l .inv .2,
@@ -147,7 +147,7 @@ note-state-spec =
     rows-in-requires
     loop-holds
     steps-in-requires
-    row-of-requires
+    row-in-requires
     mul-note-row
     add-note-row
     note-row-requires

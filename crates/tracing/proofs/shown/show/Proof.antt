@@ -8,6 +8,7 @@ use mir.ValLaws.{toZ-ofZ}
 use Rattle.plate.specs.Refusals.{Verdict.accepted}
 use Rattle.plate.proofs.Spans.{span-good, span-bound}
 use Rattle.tracing.proofs.Directions.{usable-long}
+use Rattle.tracing.proofs.Modes.{level-turned}
 use Rattle.tracing.proofs.Finding.{scan-pixels, scan-room, scan-attained, scan-drawn}
 use Rattle.tracing.proofs.Showing.{clear-long, clear-plate, clear-path, clear-on, clear-accepted-sizes, level-found, path-shown}
 use Rattle.tracing.proofs.shown.show.Statement.{statement}
@@ -31,7 +32,7 @@ scan-of-requires c κs =
     let g = p .size in
     let e = c .span-of .ensures in
     let n = e ∙ span-good g (c .before .before .before .find .result .index) (b .listed) in (
-      (g .wide, g .narrow, g .high, g .low, g .few),
+      g,
       (
         (p .long, p .short, p .few-gaps, b .listed),
         (n, omega (arith, e, span-bound g (c .before .before .before .find .result .index) (b .listed)), omega (arith, n, usable-long (a .width) (a .height) (a .setting) (c .before .before .before .find .result .index) (b .listed) (b .is-usable))),
@@ -81,7 +82,7 @@ returns c =
     let long = clear-long (a .width) (a .height) (a .setting) (length (a .plate .now)) (a .x) (length (a .path .now)) (length (a .work .now)) (s .pre .0) in
     let on = clear-on (a .width) (a .height) (a .setting) (length (a .plate .now)) (a .x) (length (a .path .now)) (length (a .work .now)) (s .pre .0) in
     let exact = clear-plate (a .width) (a .height) (a .setting) (length (a .plate .now)) (a .x) (length (a .path .now)) (length (a .work .now)) (s .pre .0) in
-    let is-level = toZ-ofZ w16 (v .result) (record { sfits = v .ok }) ∙ v .ensures in
+    let is-level = toZ-ofZ w16 (v .result) (record { sfits = v .ok }) ∙ v .ensures ∙ level-turned (a .setting) (f .result .key) in
     let path =
     scan-drawn (r .result) (a .width) (a .height) (a .setting) (f .result .index) (r .ensures .0) (r .ensures .1) long (a .plate .now) (a .x) (f .result .key) (d .last .0) (d .ensures) in (
       ap accepted (is-level ∙ sym (level-found (a .width) (a .height) (a .setting) (a .plate .now) (a .x) on long (f .result) (f .ensures .0) exact (f .ensures .1))),

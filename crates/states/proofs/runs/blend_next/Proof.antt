@@ -1,0 +1,117 @@
+-- `blend_next` meets its contract as `blend_first` does; what was kept of the plane before is read just before it is overwritten.
+use Prim.Native.Nat.{ℕ, _+_, _-_, _≤_, min, max}
+use mathlib.Core.Path.{refl}
+use native.Mathlib.Omega.{arith}
+use lib.ListN.{getD}
+use Rattle.states.specs.Runs.{Between, greatestAt}
+use Rattle.states.proofs.RunLaws.{between-none, between-ends, blend-more, greatest-more, next-of}
+use Rattle.states.proofs.runs.blend_next.Statement.{statement}
+use Rattle.states.proofs.runs.blend_next.Tie as tie
+
+abbrev Inv-loop : tie.InvT-loop
+Inv-loop held₀ below₀ key at taps n x₀ held below x =
+    (x ≤ n)
+    × Between (λ (k : ℕ). max (min (getD key (at + (k - taps .to)) 0) (greatestAt held₀ (taps .t0) (taps .t1) (taps .t2) (k - taps .to))) (getD below₀ (k - taps .to) 0)) held₀ held (taps .to) (taps .to + x)
+    × Between (λ (k : ℕ). greatestAt held₀ (taps .t0) (taps .t1) (taps .t2) k) below₀ below 0 x
+
+abbrev μ-loop : tie.MeasureT-loop
+μ-loop held₀ below₀ key at taps n x₀ held below x = n - x
+
+loop-holds : tie.Need-loop-holds Inv-loop μ-loop
+loop-holds c = (omega arith, between-none _ _ _ _ (omega arith), between-none _ _ _ _ refl)
+
+greatest-of-requires : tie.Need-greatest-of-requires Inv-loop μ-loop
+greatest-of-requires c κs = omega arith
+
+add-min2 : tie.Need-add-min2 Inv-loop μ-loop
+add-min2 c = omega arith
+
+mul-min2 : tie.Need-mul-min2 Inv-loop μ-loop
+mul-min2 c = omega arith
+
+shared-slice-read-min2 : tie.Need-shared-slice-read-min2 Inv-loop μ-loop
+shared-slice-read-min2 c = omega arith
+
+min2-requires : tie.Need-min2-requires Inv-loop μ-loop
+min2-requires c κs = tt
+
+mul-max2 : tie.Need-mul-max2 Inv-loop μ-loop
+mul-max2 c = omega arith
+
+slice-read-max2 : tie.Need-slice-read-max2 Inv-loop μ-loop
+slice-read-max2 c = omega arith
+
+max2-requires : tie.Need-max2-requires Inv-loop μ-loop
+max2-requires c κs = tt
+
+add-held : tie.Need-add-held Inv-loop μ-loop
+add-held c = omega arith
+
+mul-held : tie.Need-mul-held Inv-loop μ-loop
+mul-held c = omega arith
+
+slice-write-held : tie.Need-slice-write-held Inv-loop μ-loop
+slice-write-held c = omega arith
+
+mul-below : tie.Need-mul-below Inv-loop μ-loop
+mul-below c = omega arith
+
+slice-write-below : tie.Need-slice-write-below Inv-loop μ-loop
+slice-write-below c = omega arith
+
+add-x : tie.Need-add-x Inv-loop μ-loop
+add-x c = omega arith
+
+loop-less : tie.Need-loop-less Inv-loop μ-loop
+loop-less c = omega arith
+
+loop-again : tie.Need-loop-again Inv-loop μ-loop
+loop-again c =
+    let s = c .before .before .before .before .before .before .before .before .before .before .before .before in
+    let l = c .before .before .before .before .before .before .before .before .loop in
+    let m = c .before .before .before .before .before .greatest-of in
+    let w = c .before .before .before .min2 in
+    let v = c .before .max2 in
+    let t = c .before .before .before .before .before .before .before .loop-test .taken in (
+      omega arith,
+      blend-more _ _ _ _ _ _ _ _ _ (s .pre .0) t (λ (i g : ℕ). max (min (getD (s .args .key .now) (s .args .at + i) 0) g) (getD (s .args .below .now) i 0)) _ (l .inv .1) (m .ensures)
+          (next-of _ _ _ _ _ _ (v .ensures) (w .ensures) (l .inv .2 .over (l .x) (omega arith))),
+      greatest-more _ _ _ _ _ _ _ _ _ (s .pre .0) t _ _ _ (l .inv .1) (l .inv .2) (s .pre .1 .0) (m .ensures),
+    )
+
+same-length : tie.Need-same-length Inv-loop μ-loop
+same-length c = omega arith
+
+same-length-2 : tie.Need-same-length-2 Inv-loop μ-loop
+same-length-2 c = omega arith
+
+returns : tie.Need-returns Inv-loop μ-loop
+returns c =
+    let l = c .before .loop in (between-ends _ _ _ _ _ _ (l .inv .1) (omega arith), between-ends _ _ _ _ _ _ (l .inv .2) (omega arith))
+
+pub blend-next-spec : {M : Type 1} → statement M
+blend-next-spec =
+    tie.close
+    (tie.spec
+    Inv-loop
+    μ-loop
+    loop-holds
+    greatest-of-requires
+    add-min2
+    mul-min2
+    shared-slice-read-min2
+    min2-requires
+    mul-max2
+    slice-read-max2
+    max2-requires
+    add-held
+    mul-held
+    slice-write-held
+    mul-below
+    slice-write-below
+    add-x
+    loop-less
+    loop-again
+    same-length
+    same-length-2
+    returns)

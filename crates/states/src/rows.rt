@@ -1,0 +1,193 @@
+// One row, with all its planes: held, made of held ones, put into a state, joined with one of another
+// state. A held row has pixel x at x + 1 of each plane, and a zero before and after its pixels.
+ghost use mathlib.Core.Path.{_≡_};
+ghost use Prim.Native.Nat.{ℕ, _+_, _-_, _*_, _≤_, _<_};
+ghost use lib.ListN.{length, getD};
+ghost use Rattle.states.specs.Runs.{Apart};
+ghost use Rattle.plans.specs.Plans.{pitchOf, blockOf, rowSize, startsAt};
+ghost use Rattle.states.specs.Rows.{gate, RowPut, RowHeld, RowStored, RowJoined, RowOf, SlotOf, TapsOf, Started, blended};
+ghost use Rattle.theory.specs.BestWalks.{alone};
+use crate::runs::Taps;
+use crate::runs::blend_first;
+use crate::runs::blend_next;
+use crate::runs::copy_run;
+use crate::runs::fill_run;
+use crate::runs::fold_run;
+use plans::Plan;
+use plans::Row;
+
+// A zero before and after the pixels of a row.
+fn guard(held: &mut [u16], slot: usize, plan: Plan, row: Row)
+    requires { ⌜ (RowOf plan row) × (SlotOf plan slot (length (now held))) ⌝ }
+    ensures { λ _. ⌜ ((f : ℕ → ℕ → ℕ) → RowPut (now (held .entry)) slot (plan .planes) (pitchOf plan) (row .lo) (row .hi) f → RowHeld (now (held .exit)) slot (plan .planes) (pitchOf plan) (row .lo) (row .hi) f) ⌝ }
+    ensures { λ _. ⌜ Apart (now (held .entry)) (now (held .exit)) slot (slot + blockOf plan) ⌝ }
+{
+    let mut j = 0;
+    let mut at = slot;
+    while j < plan.planes {
+        held[at + row.lo] = 0;
+        held[at + row.hi + 1] = 0;
+        j += 1;
+        at += plan.across + 10;
+    }
+}
+
+// The row of a state that begins at `at` is held at a slot.
+pub(crate) fn load_row(held: &mut [u16], slot: usize, work: &[u16], at: usize, plan: Plan, row: Row)
+    requires { ⌜ (RowOf plan row) × (SlotOf plan slot (length (now held))) × (at + rowSize plan ≤ length (now work)) ⌝ }
+    ensures { λ _. ⌜ RowHeld (now (held .exit)) slot (plan .planes) (pitchOf plan) (row .lo) (row .hi) (λ (j x : ℕ). getD (now (work .entry)) (at + (j * plan .across + x)) 0) ⌝ }
+    ensures { λ _. ⌜ Apart (now (held .entry)) (now (held .exit)) slot (slot + blockOf plan) ⌝ }
+{
+    let mut j = 0;
+    let mut to = slot + 1 + row.lo;
+    let mut from = at + row.lo;
+    while j < plan.planes {
+        copy_run(held, to, work, from, row.hi - row.lo);
+        j += 1;
+        to += plan.across + 10;
+        from += plan.across;
+    }
+    guard(held, slot, plan, row);
+}
+
+// The held row comes to `at`, where a row of a state begins.
+pub(crate) fn store_row(work: &mut [u16], at: usize, held: &[u16], slot: usize, plan: Plan, row: Row)
+    requires { ⌜ (RowOf plan row) × (SlotOf plan slot (length (now held))) × (at + rowSize plan ≤ length (now work)) ⌝ }
+    ensures { λ _. ⌜ ((f : ℕ → ℕ → ℕ) → RowHeld (now (held .entry)) slot (plan .planes) (pitchOf plan) (row .lo) (row .hi) f → RowStored (now (work .exit)) at (plan .planes) (plan .across) (row .lo) (row .hi) f) ⌝ }
+    ensures { λ _. ⌜ Apart (now (work .entry)) (now (work .exit)) at (at + rowSize plan) ⌝ }
+{
+    let mut j = 0;
+    let mut to = at + row.lo;
+    let mut from = slot + 1 + row.lo;
+    while j < plan.planes {
+        copy_run(work, to, held, from, row.hi - row.lo);
+        j += 1;
+        to += plan.across;
+        from += plan.across + 10;
+    }
+}
+
+// The walks of no steps from pixel `first` below `past`: the key in plane 0, and the highest key in the
+// others, since a pixel alone that may be a gap counts at every level. This is the one place that says
+// what a walk starts with, on either side.
+fn start_run(
+    held: &mut [u16],
+    slot: usize,
+    keys: &[u16],
+    at: usize,
+    plan: Plan,
+    first: usize,
+    past: usize,
+)
+    requires { ⌜ (1 ≤ plan .planes) × (plan .planes ≤ 9) × (plan .across ≤ 1024) × (first ≤ past) × (past ≤ plan .across) ⌝ }
+    requires { ⌜ (SlotOf plan slot (length (now held))) × (at + plan .across ≤ length (now keys)) ⌝ }
+    ensures { λ _. ⌜ Started (now (held .entry)) (now (held .exit)) (λ (x : ℕ). getD (now (keys .entry)) (at + x) 0) slot plan first past ⌝ }
+{
+    let n = past - first;
+    copy_run(held, slot + 1 + first, keys, at + first, n);
+    let mut j = 1;
+    let mut to = slot + 1 + first + (plan.across + 10);
+    while j < plan.planes {
+        fill_run(held, to, n, 65535);
+        j += 1;
+        to += plan.across + 10;
+    }
+}
+
+// The walks of no steps at the pixels of a row where a walk may start, and zeros elsewhere.
+pub(crate) fn start_row(held: &mut [u16], slot: usize, keys: &[u16], plan: Plan, row: Row, m: usize)
+    requires { ⌜ (RowOf plan row) × (SlotOf plan slot (length (now held))) × (row .at + plan .across ≤ length (now keys)) ⌝ }
+    ensures { λ _. ⌜ RowHeld (now (held .exit)) slot (plan .planes) (pitchOf plan) (row .lo) (row .hi) (λ (j x : ℕ). gate (startsAt plan m x) (alone (getD (now (keys .entry)) (row .at + x) 0) j)) ⌝ }
+    ensures { λ _. ⌜ Apart (now (held .entry)) (now (held .exit)) slot (slot + blockOf plan) ⌝ }
+{
+    fill_run(held, slot, plan.planes * (plan.across + 10), 0);
+    if plan.lone {
+        if m > 0 {
+            return;
+        }
+        if plan.pixel < row.lo {
+            return;
+        }
+        if plan.pixel >= row.hi {
+            return;
+        }
+        start_run(held, slot, keys, row.at, plan, plan.pixel, plan.pixel + 1);
+        return;
+    }
+    start_run(held, slot, keys, row.at, plan, row.lo, row.hi);
+}
+
+// How many numbers of a row are made at once: all, and up to seven more, so that they are whole vectors.
+fn run_of(row: Row, room: usize) -> usize
+    requires { ⌜ (row .lo ≤ row .hi) × (row .hi ≤ 1024) × (row .hi - row .lo ≤ room) ⌝ }
+    ensures { λ r. ⌜ (row .hi ≤ row .lo + r) × (r ≤ room) × (row .lo + r ≤ row .hi + 7) ⌝ }
+{
+    let n = (row.hi - row.lo + 7) / 8 * 8;
+    if n > room { room } else { n }
+}
+
+// The taps of a run at the next plane.
+fn higher(taps: Taps, pitch: usize) -> Taps
+    requires { ⌜ (taps .t0 < 65536) × (taps .t1 < 65536) × (taps .t2 < 65536) × (taps .to < 65536) × (pitch < 65536) ⌝ }
+    ensures { λ r. ⌜ (r .t0 ≡ taps .t0 + pitch) × (r .t1 ≡ taps .t1 + pitch) × (r .t2 ≡ taps .t2 + pitch) × (r .to ≡ taps .to + pitch) ⌝ }
+{
+    Taps {
+        t0: taps.t0 + pitch,
+        t1: taps.t1 + pitch,
+        t2: taps.t2 + pitch,
+        to: taps.to + pitch,
+    }
+}
+
+// A row made of held ones: `taps` are where pixel 0 of plane 0 finds its three numbers, and where it is.
+pub(crate) fn blend_row(
+    held: &mut [u16],
+    below: &mut [u16],
+    keys: &[u16],
+    plan: Plan,
+    row: Row,
+    taps: Taps,
+)
+    requires { ⌜ (RowOf plan row) × (TapsOf plan (taps .t0) (taps .t1) (taps .t2) (taps .to) (length (now held))) ⌝ }
+    requires { ⌜ (row .at + plan .across ≤ length (now keys)) × (plan .across + 7 ≤ length (now below)) × (length (now held) ≤ 40000) ⌝ }
+    ensures { λ _. ⌜ RowHeld (now (held .exit)) (taps .to - 1) (plan .planes) (pitchOf plan) (row .lo) (row .hi) (blended (now (held .entry)) (pitchOf plan) (taps .t0) (taps .t1) (taps .t2) (λ (x : ℕ). getD (now (keys .entry)) (row .at + x) 0)) ⌝ }
+    ensures { λ _. ⌜ Apart (now (held .entry)) (now (held .exit)) (taps .to - 1) (taps .to - 1 + blockOf plan) ⌝ }
+{
+    let at = row.at + row.lo;
+    let n = run_of(row, keys.len() - at);
+    let mut run = higher(taps, row.lo);
+    blend_first(held, below, keys, at, run, n);
+    let mut j = 1;
+    while j < plan.planes {
+        run = higher(run, plan.across + 10);
+        blend_next(held, below, keys, at, run, n);
+        j += 1;
+    }
+    guard(held, taps.to - 1, plan, row);
+}
+
+// The best of the pixels of a row rises to the held row joined with the one of another state at `at`: the
+// planes of the one from the lowest on, those of the other from the highest down. The loop counts by the
+// latter alone, so that the compiler settles for each run by itself that its numbers do not overlap.
+pub(crate) fn join_row(
+    best: &mut [u16],
+    held: &[u16],
+    slot: usize,
+    work: &[u16],
+    at: usize,
+    plan: Plan,
+    row: Row,
+)
+    requires { ⌜ (RowOf plan row) × (SlotOf plan slot (length (now held))) × (at + rowSize plan ≤ length (now work)) × (row .at + plan .across ≤ length (now best)) ⌝ }
+    ensures { λ _. ⌜ ((f g : ℕ → ℕ → ℕ) → RowHeld (now (held .entry)) slot (plan .planes) (pitchOf plan) (row .lo) (row .hi) f → RowStored (now (work .entry)) at (plan .planes) (plan .across) (row .lo) (row .hi) g → RowJoined (now (best .entry)) (now (best .exit)) (row .at) (plan .planes) (row .lo) (row .hi) f g) ⌝ }
+{
+    let n = row.hi - row.lo;
+    let to = row.at + row.lo;
+    let mut h = slot + 1 + row.lo;
+    let mut from = at + plan.planes * plan.across;
+    while from > at {
+        from -= plan.across;
+        fold_run(best, to, held, h, work, from + row.lo, n);
+        h += plan.across + 10;
+    }
+}

@@ -1,0 +1,4 @@
+pub mod StackLaws
+pub mod SweepLaws
+pub mod DoorTests
+pub mod OppositeLaws

@@ -1,0 +1,71 @@
+-- Which calls of this crate are taken: the plans can be followed, and what is lent has room. A call that is not taken changes nothing. These
+-- definitions serve contracts inside the engine only: no public contract cites them.
+use Prim.Native.Nat.{ℕ, _+_, _-_, _*_}
+use mathlib.Core.Bool.{Bool, cond, not, _&&_}
+use lib.Dec.{leb, ltb}
+use Rattle.plans.specs.Plans.{keysSize, stateSize}
+use Rattle.plans.specs.Forms.{among, wellFormed}
+use Rattle.plans.specs.declared.plan.Plan.{Plan}
+use Rattle.plans.specs.declared.plan.Reach.{Reach}
+use Rattle.states.specs.Doors.{canHold}
+use Rattle.sweeps.specs.declared.stack.Stack.{Stack}
+
+-- ---- both sides of a direction
+
+-- how many states there are with all their rows
+unfoldable pub statesOf : Plan → ℕ
+statesOf p = cond (p .still) (p .orders) (p .orders + 1 - p .rows)
+
+-- the same rows counted from the other end, with steps that lead back
+abbrev pub otherEnd : Plan → Reach → Plan
+otherEnd p reach =
+    record {
+      planes = p .planes;
+      lines = p .lines;
+      across = p .across;
+      rows = p .rows;
+      orders = p .orders;
+      origin = cond (p .back) (cond (p .ranked) (p .top + p .left) (p .top)) (cond (p .ranked) (p .bottom + p .right - 2) (p .bottom - 1));
+      back = not (p .back);
+      still = p .still;
+      ranked = p .ranked;
+      top = p .top;
+      bottom = p .bottom;
+      left = p .left;
+      right = p .right;
+      linked = p .linked;
+      lone = p .lone;
+      pixel = p .pixel;
+      reach = reach;
+    }
+
+-- one state finds room behind the keys, or two where a state is made of the last one too
+unfoldable pub roomFor : Plan → ℕ
+roomFor p = keysSize p + cond (p .linked) 2 1 * stateSize p
+
+-- both plans can be followed with what a sweep holds, and work and best have so many numbers as they ask for
+unfoldable pub sweepable : Plan → Reach → (work best : ℕ) → Bool
+sweepable p reach work best =
+    canHold p 18612 1032 && wellFormed (otherEnd p reach) && leb (statesOf p) 1024 && leb (roomFor p) work && leb (keysSize p) best
+
+-- ---- the stack
+
+-- the stack stands behind the keys, and its places find room in work and in marks
+unfoldable pub stackFits : Plan → Stack → (work marks : ℕ) → Bool
+stackFits p s work marks =
+    leb (keysSize p) (s .base)
+    && ltb (s .base) 16777216
+    && among 1 64 (s .places)
+    && leb (s .depth) (s .places)
+    && leb (s .base + s .places * stateSize p) work
+    && leb (s .places) marks
+
+unfoldable pub fetches : Plan → Stack → ℕ → (work marks held below : ℕ) → Bool
+fetches p s want work marks held below = canHold p held below && stackFits p s work marks && leb want 1024
+
+-- where the last state of a stack begins, where the stack does if it is empty; 0 where it is none
+unfoldable pub hasTop : Plan → Stack → Bool
+hasTop p s = wellFormed p && leb (s .depth) 64 && ltb (s .base) 16777216
+
+unfoldable pub topOf : Plan → Stack → ℕ
+topOf p s = cond (hasTop p s) (s .base + (s .depth - 1) * stateSize p) 0

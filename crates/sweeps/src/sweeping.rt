@@ -1,0 +1,127 @@
+// All states of both sides of a direction, joined: the walks that end at the pixels and those that go on
+// from there. The other side's states are made once, in their order, which is against the order of this
+// side; of this side each is made when it is wanted, and joined without being kept.
+ghost use mathlib.Core.Path.{_≡_};
+ghost use mathlib.Core.Bool.{true, false};
+ghost use Prim.Native.Nat.{ℕ, _+_, _-_, _*_, _≤_, _<_};
+ghost use lib.ListN.{length, getD};
+ghost use Rattle.plans.specs.Plans.{stateSize, keysSize, halfOf};
+ghost use Rattle.plans.specs.Forms.{wellFormed};
+ghost use Rattle.sweeps.specs.Sweeps.{Opposite, Swept};
+use crate::stack::Stack;
+use crate::stack::fetch;
+use crate::stack::top_of;
+use crate::taken::advance;
+use crate::taken::advance_joined;
+use plans::Plan;
+
+// How many states find room, but for one, up to 64.
+fn places_in(room: usize, size: usize) -> usize
+    requires { ⌜ (1 ≤ size) × (2 * size ≤ room) ⌝ }
+    ensures { λ r. ⌜ (1 ≤ r) × (r ≤ 64) × (r * size + size ≤ room) ⌝ }
+{
+    let all = room / size - 1;
+    if all > 64 {
+        return 64;
+    }
+    all
+}
+
+// The sides of a direction whose states are not linked: one state finds room.
+fn sweep_apart(
+    best: &mut [u16],
+    work: &mut [u16],
+    held: &mut [u16],
+    below: &mut [u16],
+    plan: Plan,
+    other: Plan,
+    states: usize,
+)
+    requires { ⌜ (wellFormed plan ≡ true) × (wellFormed other ≡ true) ⌝ }
+    requires { ⌜ (Opposite plan other states) × (plan .linked ≡ false) ⌝ }
+    requires { ⌜ (keysSize plan + stateSize plan ≤ length (now work)) × (keysSize plan ≤ length (now best)) ⌝ }
+    requires { ⌜ (halfOf plan + halfOf plan ≤ length (now held)) × (length (now held) ≤ 40000) × (plan .across + 7 ≤ length (now below)) ⌝ }
+    ensures { λ _. ⌜ Swept plan other states (now (work .entry)) (now (best .entry)) (now (best .exit)) ⌝ }
+{
+    let base = plan.lines * plan.across;
+    let mut e = 0;
+    while e < states {
+        advance(work, held, below, other, e, base, base);
+        let d = states - 1 - e;
+        advance_joined(best, work, held, below, plan, d, base, base);
+        e += 1;
+    }
+}
+
+// The sides of a direction whose states are linked: those of this side come from a stack.
+fn sweep_linked(
+    best: &mut [u16],
+    work: &mut [u16],
+    held: &mut [u16],
+    below: &mut [u16],
+    plan: Plan,
+    other: Plan,
+    states: usize,
+)
+    requires { ⌜ (wellFormed plan ≡ true) × (wellFormed other ≡ true) ⌝ }
+    requires { ⌜ Opposite plan other states ⌝ }
+    requires { ⌜ (keysSize plan + 2 * stateSize plan ≤ length (now work)) × (keysSize plan ≤ length (now best)) ⌝ }
+    requires { ⌜ (halfOf plan + halfOf plan ≤ length (now held)) × (length (now held) ≤ 40000) × (plan .across + 7 ≤ length (now below)) ⌝ }
+    ensures { λ _. ⌜ Swept plan other states (now (work .entry)) (now (best .entry)) (now (best .exit)) ⌝ }
+{
+    let base = plan.lines * plan.across;
+    let size = plan.rows * (plan.planes * plan.across);
+    let places = places_in(work.len() - base, size);
+    let ends = base + places * size;
+    let mut marks = [0usize; 64];
+    let mut stack = Stack {
+        base: base,
+        places: places,
+        depth: 0,
+    };
+    let mut e = 0;
+    while e < states {
+        advance(work, held, below, other, e, ends, ends);
+        let d = states - 1 - e;
+        stack = fetch(work, &mut marks, held, below, plan, stack, d);
+        let from = top_of(plan, stack);
+        advance_joined(best, work, held, below, plan, d, from, ends);
+        e += 1;
+    }
+}
+
+// All states of both sides, joined.
+fn sweep(
+    best: &mut [u16],
+    work: &mut [u16],
+    held: &mut [u16],
+    below: &mut [u16],
+    plan: Plan,
+    other: Plan,
+    states: usize,
+)
+    requires { ⌜ (wellFormed plan ≡ true) × (wellFormed other ≡ true) ⌝ }
+    requires { ⌜ Opposite plan other states ⌝ }
+    requires { ⌜ (keysSize plan + stateSize plan ≤ length (now work)) × (plan .linked ≡ true → keysSize plan + 2 * stateSize plan ≤ length (now work)) × (keysSize plan ≤ length (now best)) ⌝ }
+    requires { ⌜ (halfOf plan + halfOf plan ≤ length (now held)) × (length (now held) ≤ 40000) × (plan .across + 7 ≤ length (now below)) ⌝ }
+    ensures { λ _. ⌜ Swept plan other states (now (work .entry)) (now (best .entry)) (now (best .exit)) ⌝ }
+{
+    if plan.linked {
+        sweep_linked(best, work, held, below, plan, other, states);
+    } else {
+        sweep_apart(best, work, held, below, plan, other, states);
+    }
+}
+
+// The same with rows that are held on the stack of the call: 39 KB.
+pub(crate) fn sweep_held(best: &mut [u16], work: &mut [u16], plan: Plan, other: Plan, states: usize)
+    requires { ⌜ (wellFormed plan ≡ true) × (wellFormed other ≡ true) ⌝ }
+    requires { ⌜ Opposite plan other states ⌝ }
+    requires { ⌜ (keysSize plan + stateSize plan ≤ length (now work)) × (plan .linked ≡ true → keysSize plan + 2 * stateSize plan ≤ length (now work)) × (keysSize plan ≤ length (now best)) ⌝ }
+    requires { ⌜ (halfOf plan + halfOf plan ≤ 18612) × (plan .across ≤ 1024) ⌝ }
+    ensures { λ _. ⌜ Swept plan other states (now (work .entry)) (now (best .entry)) (now (best .exit)) ⌝ }
+{
+    let mut held = [0u16; 18612];
+    let mut below = [0u16; 1032];
+    sweep(best, work, &mut held, &mut below, plan, other, states);
+}
