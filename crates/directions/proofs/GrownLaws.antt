@@ -1,5 +1,5 @@
 -- How the states of any plan grow, as far as one argument serves all: a row of no steps tells the walks that start where the plan says, and the walks of
--- a step more obey the recursion of `reachFrom`, whose best neighbour is the greatest of three spots. It is left to each plan that its three steps find
+-- a step more obey the recursion of `bestWalkTo`, whose best neighbour is the greatest of three spots. It is left to each plan that its three steps find
 -- these spots.
 use Prim.Native.Nat.{ℕ, zero, suc, _+_, _-_, _^_, _≤_, _<_, min, max}
 use mathlib.Core.Path.{_≡_, refl, sym, ap, _∙_}
@@ -16,7 +16,7 @@ use Rattle.states.specs.Rows.{gate}
 use Rattle.states.specs.States.{ahead, Grown}
 use Rattle.plans.specs.declared.plan.Plan.{Plan}
 use Rattle.directions.specs.Numbers.{stepsAt, pixelIn, numberAt}
-use Rattle.theory.specs.BestWalks.{alone, fewer, best, reachFrom}
+use Rattle.theory.specs.BestWalks.{alone, fewer, best, bestWalkTo}
 use Rattle.theory.specs.Walks.{around}
 
 -- ---- what is asked of the pixels of a state
@@ -62,7 +62,7 @@ module _ (r : Frame) (W H index : ℕ) (framed : Framed r W H index) (back : Boo
   next = around back W H (2 ^ index)
 
   abbrev walks : ℕ → ℕ → ℕ → ℕ
-  walks = reachFrom next g ends
+  walks = bestWalkTo next g ends
 
   module _ (n i x : ℕ) (on : i < r .lines) (column : x < r .across) where
     fewer-onward : (j : ℕ) → fewer (λ b. best (walks n b) (next (placeIn r i x))) j ≡ fewer (λ b. onward (walks n b) r back i x) j
@@ -106,7 +106,7 @@ module _ (r : Frame) (W H index : ℕ) (framed : Framed r W H index) (back : Boo
         AtPixels p e (λ m x. (lineIn p e m x < r .lines) × (x < r .across)) →
         AtPixels p e (λ m x. (n : ℕ) → stepsAt p e m ≡ suc n → (j : ℕ) →
         ahead p e last (numberAt r p (around back W H (2 ^ index)) g ends e) (suc j) m x
-        ≡ onward (reachFrom (around back W H (2 ^ index)) g ends n j) r back (lineIn p e m x) x) →
+        ≡ onward (bestWalkTo (around back W H (2 ^ index)) g ends n j) r back (lineIn p e m x) x) →
         Grown p e keys last (numberAt r p (around back W H (2 ^ index)) g ends e)
     unfolding numberAt starts
     grown-by on onto =

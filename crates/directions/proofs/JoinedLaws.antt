@@ -25,9 +25,9 @@ use Rattle.plans.specs.declared.plan.Plan.{Plan}
 use Rattle.directions.specs.Plans.{FrameOf, filterPlan, filterStates}
 use Rattle.directions.specs.Numbers.{stepsAt, pixelIn, numberAt, placeKept, keysBy}
 use Rattle.directions.specs.Gathering.{Risen}
-use Rattle.theory.specs.BestWalks.{upto, reach, joinedAt, across, keyAt}
+use Rattle.theory.specs.BestWalks.{upto, bestWalk, joinedAt, bestThrough, keyAt}
 use Rattle.theory.specs.Walks.{around}
-use Rattle.theory.specs.Ranks.{room}
+use Rattle.theory.specs.Ranks.{stepsLeft}
 use Rattle.directions.proofs.KeptLaws.{PlanOn, RowOn, sized-filter, on-filter, kept-on, kept-inside}
 use Rattle.directions.proofs.PairLaws.{RowFor, Paired, paired}
 
@@ -35,8 +35,8 @@ use Rattle.directions.proofs.PairLaws.{RowFor, Paired, paired}
 
 module _ (next back : ℕ → List ℕ) (g : ℕ → ℕ) (m k x : ℕ) where
   -- walks of n steps on and of l steps to here, with the gaps shared
-  pub term-below : (n l i j : ℕ) → n + l ≡ m → i + j ≡ k → min (reach next g n j x) (reach back g l i x) ≤ across next back g m k x
-  unfolding across
+  pub term-below : (n l i j : ℕ) → n + l ≡ m → i + j ≡ k → min (bestWalk next g n j x) (bestWalk back g l i x) ≤ bestThrough next back g m k x
+  unfolding bestThrough
   term-below n l i j steps gaps =
       let hn : m - l ≡ n = omega arith in
       let hj : k - i ≡ j = omega arith in
@@ -45,9 +45,9 @@ module _ (next back : ℕ → List ℕ) (g : ℕ → ℕ) (m k x : ℕ) where
       let outer = upto-keep (λ (l : ℕ). upto (joinedAt next back g m k x l) k) t m l (omega arith) inner in
       omega (arith, rw (hn, hj) at outer)
 
-  pub terms-least : (b : ℕ) → ((l i : ℕ) → l ≤ m → i ≤ k → min (reach next g (m - l) (k - i) x) (reach back g l i x) ≤ b) →
-      across next back g m k x ≤ b
-  unfolding across
+  pub terms-least : (b : ℕ) → ((l i : ℕ) → l ≤ m → i ≤ k → min (bestWalk next g (m - l) (k - i) x) (bestWalk back g l i x) ≤ b) →
+      bestThrough next back g m k x ≤ b
+  unfolding bestThrough
   terms-least b h =
       upto-least (λ (l : ℕ). upto (joinedAt next back g m k x l) k) b m
       (λ l hl. upto-least (joinedAt next back g m k x l) b k (λ i hi. omega (arith, h l i hl hi)))
@@ -64,8 +64,8 @@ module _ (r : Frame) (p o : Plan) (states steps k : ℕ) (pair : Paired r p o st
   -- they are walks on from a pixel and walks that end there
   pub met-is : (e m j x : ℕ) → e < states → m < p .rows → j ≤ k →
       met p states forth back e m j x
-      ≡ min (reach (around false W H bit) g (stepsAt p e m) j (pixelIn r (p .ranked) (lineAt p e m) x))
-      (reach (around true W H bit) g (stepsAt o (states - 1 - e) (p .rows - 1 - m)) (k - j) (pixelIn r (p .ranked) (lineAt p e m) x))
+      ≡ min (bestWalk (around false W H bit) g (stepsAt p e m) j (pixelIn r (p .ranked) (lineAt p e m) x))
+      (bestWalk (around true W H bit) g (stepsAt o (states - 1 - e) (p .rows - 1 - m)) (k - j) (pixelIn r (p .ranked) (lineAt p e m) x))
   unfolding numberAt
   met-is e m j x h l few =
       let gaps : p .planes - 1 - j ≡ k - j = omega (arith, pair .same-planes) in
@@ -77,7 +77,7 @@ module _ (r : Frame) (p o : Plan) (states steps k : ℕ) (pair : Paired r p o st
       )
 
   pub met-below : (e m j x : ℕ) → e < states → m < p .rows → j ≤ k →
-      met p states forth back e m j x ≤ across (around false W H bit) (around true W H bit) g steps k (pixelIn r (p .ranked) (lineAt p e m) x)
+      met p states forth back e m j x ≤ bestThrough (around false W H bit) (around true W H bit) g steps k (pixelIn r (p .ranked) (lineAt p e m) x)
   met-below e m j x h l few =
       omega (
         arith,
@@ -89,8 +89,8 @@ module _ (r : Frame) (p o : Plan) (states steps k : ℕ) (pair : Paired r p o st
 -- ---- a term that is not 0 has its row
 
 -- a walk has no more steps than there is room
-pub no-walk : (W H index : ℕ) → index < 4 → (g : ℕ → ℕ) (back : Bool) (m j q : ℕ) → q < W * H → room W H (2 ^ index) back q < m →
-    reach (around back W H (2 ^ index)) g m j q ≡ 0
+pub no-walk : (W H index : ℕ) → index < 4 → (g : ℕ → ℕ) (back : Bool) (m j q : ℕ) → q < W * H → stepsLeft W H (2 ^ index) back q < m →
+    bestWalk (around back W H (2 ^ index)) g m j q ≡ 0
 no-walk W H index known g back m j q on h =
     reach-none (around back W H (2 ^ index)) g m j q (λ ps w. omega (arith, side W H (2 ^ index) (bit-listed index known) back .fits on w))
 
@@ -105,7 +105,7 @@ module _ (r : Frame) (W H index : ℕ) (framed : Framed r W H index) (known : in
 
   module _ (old best : List ℕ) (joined : AllJoined p states 0 (numberAt r p on g anywhere) (numberAt r o to g anywhere) old best) where
     row-reached : (i x l c : ℕ) → l ≤ steps → c ≤ k → (f : RowFor r p states i x (steps - l)) →
-        min (reach on g (steps - l) (k - c) (placeIn r i x)) (reach to g l c (placeIn r i x)) ≤ getD best (rowAt p (f .state) (f .row) + x) 0
+        min (bestWalk on g (steps - l) (k - c) (placeIn r i x)) (bestWalk to g l c (placeIn r i x)) ≤ getD best (rowAt p (f .state) (f .row) + x) 0
     row-reached i x l c hl hc f =
         let other : stepsAt o (states - 1 - f .state) (p .rows - 1 - f .row) ≡ l =
         omega (arith, pair .together (f .state) (f .row) (f .some-state) (f .some-row), f .is-steps) in
@@ -121,7 +121,7 @@ module _ (r : Frame) (W H index : ℕ) (framed : Framed r W H index) (known : in
 
     module _ (start new : List ℤ) (risen : Risen r (p .ranked) best start new 0 (r .lines * r .across)) where
       row-raised : (i x l c : ℕ) → l ≤ steps → c ≤ k → (f : RowFor r p states i x (steps - l)) →
-          min (reach on g (steps - l) (k - c) (placeIn r i x)) (reach to g l c (placeIn r i x)) ≤ keyAt new (placeIn r i x)
+          min (bestWalk on g (steps - l) (k - c) (placeIn r i x)) (bestWalk to g l c (placeIn r i x)) ≤ keyAt new (placeIn r i x)
       row-raised i x l c hl hc f =
           let is-on = rows-on (f .state) (f .row) x (f .some-state) (f .some-row) (f .from) (f .below) in
           let up = risen .reached (rowAt p (f .state) (f .row) + x) (omega arith) (kept-inside r p sized (f .state) (f .row) x is-on) in
@@ -129,7 +129,7 @@ module _ (r : Frame) (W H index : ℕ) (framed : Framed r W H index) (known : in
           omega (arith, row-reached i x l c hl hc f, up′)
 
       term-raised : (i x : ℕ) → i < r .lines → x < r .across → (l c : ℕ) → l ≤ steps → c ≤ k →
-          min (reach on g (steps - l) (k - c) (placeIn r i x)) (reach to g l c (placeIn r i x)) ≤ keyAt new (placeIn r i x)
+          min (bestWalk on g (steps - l) (k - c) (placeIn r i x)) (bestWalk to g l c (placeIn r i x)) ≤ keyAt new (placeIn r i x)
       term-raised i x h column l c hl hc =
           ⊎-elim
           (λ a. ⊎-elim
@@ -137,28 +137,28 @@ module _ (r : Frame) (W H index : ℕ) (framed : Framed r W H index) (known : in
           (pair .row-for i x (steps - l) l h column (omega arith) (omega (arith, a, framed .room-on i x h column))
           (omega (arith, b, framed .room-back i x h column))))
           (λ b. omega (arith, no-walk W H index known g true l c (placeIn r i x) (framed .lies i x h column) b))
-          (le-or-lt l (room W H (2 ^ index) true (placeIn r i x))))
+          (le-or-lt l (stepsLeft W H (2 ^ index) true (placeIn r i x))))
           (λ a. omega (arith, no-walk W H index known g false (steps - l) (k - c) (placeIn r i x) (framed .lies i x h column) a))
-          (le-or-lt (steps - l) (room W H (2 ^ index) false (placeIn r i x)))
+          (le-or-lt (steps - l) (stepsLeft W H (2 ^ index) false (placeIn r i x)))
 
       -- the levels have risen to the best walks, and no further
-      pub walks-raised : (q : ℕ) → q < W * H → across on to g steps k q ≤ keyAt new q
+      pub walks-raised : (q : ℕ) → q < W * H → bestThrough on to g steps k q ≤ keyAt new q
       walks-raised q h =
           let at = framed .whole q h in
-          subst (λ (z : ℕ). across on to g steps k z ≤ keyAt new z) (at .4)
+          subst (λ (z : ℕ). bestThrough on to g steps k z ≤ keyAt new z) (at .4)
           (terms-least on to g steps k (placeIn r (at .0) (at .1)) (keyAt new (placeIn r (at .0) (at .1)))
           (term-raised (at .0) (at .1) (at .2) (at .3)))
 
-      pub walks-bound : ((q : ℕ) → getD old q 0 ≡ 0) → (q : ℕ) → keyAt new q ≤ max (keyAt start q) (across on to g steps k q)
+      pub walks-bound : ((q : ℕ) → getD old q 0 ≡ 0) → (q : ℕ) → keyAt new q ≤ max (keyAt start q) (bestThrough on to g steps k q)
       walks-bound none =
-          let low : (q : ℕ) → getD best q 0 ≤ max (getD old q 0) (across on to g steps k (placeKept r (p .ranked) q)) =
-          joined .bounded (λ q. across on to g steps k (placeKept r (p .ranked) q))
+          let low : (q : ℕ) → getD best q 0 ≤ max (getD old q 0) (bestThrough on to g steps k (placeKept r (p .ranked) q)) =
+          joined .bounded (λ q. bestThrough on to g steps k (placeKept r (p .ranked) q))
           (λ e m j x z h l few lo hi.
-          let same = ap (across on to g steps k) (kept-on r p sized e m x (rows-on e m x h l lo hi)) in
+          let same = ap (bestThrough on to g steps k) (kept-on r p sized e m x (rows-on e m x h l lo hi)) in
           omega (arith, met-below r p o states steps k pair W H (2 ^ index) g e m j x h l (omega (arith, pair .same-planes)), same)) in
-          risen .bounded (across on to g steps k) (λ q z h. omega (arith, low q, none q))
+          risen .bounded (bestThrough on to g steps k) (λ q z h. omega (arith, low q, none q))
 
-      pub all-raised : ((q : ℕ) → getD old q 0 ≡ 0) → length start ≡ W * H → Raised (λ q. across on to g steps k q) start new 0 (W * H)
+      pub all-raised : ((q : ℕ) → getD old q 0 ≡ 0) → length start ≡ W * H → Raised (λ q. bestThrough on to g steps k q) start new 0 (W * H)
       all-raised none size =
           record {
             inside = λ q l h. omega (arith, walks-raised q h, risen .grown q, walks-bound none q);
@@ -196,7 +196,7 @@ module _ (r : Frame) (W H index : ℕ) (by-rows : Bool) (L planes k : ℕ) (fram
         (numberAt r (filterPlan r by-rows false L planes) (around false W H (2 ^ index)) g anywhere)
         (numberAt r (filterPlan r by-rows true L planes) (around true W H (2 ^ index)) g anywhere) old best →
         Risen r (filterPlan r by-rows false L planes .ranked) best start new 0 (r .lines * r .across) → length start ≡ W * H →
-        Raised (λ q. across (around false W H (2 ^ index)) (around true W H (2 ^ index)) g (L - 1) k q) start new 0 (W * H)
+        Raised (λ q. bestThrough (around false W H (2 ^ index)) (around true W H (2 ^ index)) g (L - 1) k q) start new 0 (W * H)
     direction-raised g joined risen size =
         all-raised r W H index framed known (plan false) (plan true) (filterStates r L) (L - 1) k pair sized rows-on g old best joined start new risen
         none size

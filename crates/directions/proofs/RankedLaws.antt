@@ -1,6 +1,6 @@
 -- Ranks of a diagonal: state e is the walks of e steps, and row m those at rank e + m of an area. A step along the line or to the line before leads one
 -- rank on, where the walks of a step fewer are the same row of the last state; one that does both leads two ranks on, to the row before of the last
--- state. Before row 0 there is none, and no walk: so many steps don't find room there. So the states grow as `reachFrom` does.
+-- state. Before row 0 there is none, and no walk: so many steps don't find room there. So the states grow as `bestWalkTo` does.
 use Prim.Native.Nat.{ℕ, zero, suc, _+_, _-_, _^_, _≤_, _<_}
 use mathlib.Core.Path.{_≡_, refl, sym, ap, _∙_}
 use mathlib.Core.Bool.{Bool, true, false, cond}
@@ -14,7 +14,7 @@ use Rattle.plans.specs.declared.plan.Plan.{Plan}
 use Rattle.directions.specs.Plans.{rankedPlan, AreaOf}
 use Rattle.directions.specs.Numbers.{numberAt}
 use Rattle.directions.specs.declared.plan.Area.{Area}
-use Rattle.theory.specs.BestWalks.{reachFrom}
+use Rattle.theory.specs.BestWalks.{bestWalkTo}
 use Rattle.theory.specs.Walks.{around}
 use Rattle.directions.proofs.SpotRows.{InArea, Beside, in-or-beside, spot-zero, rank-row}
 use Rattle.directions.proofs.TapLaws.{diagonal-taps}
@@ -84,13 +84,13 @@ module _ (r : Frame) (by-rows back : Bool) (a : Area) (rows planes : ℕ) (area 
 
 module _ (r : Frame) (W H index : ℕ) (framed : Framed r W H index) (slanted : r .diagonal ≡ true) (by-rows back : Bool) (g : ℕ → ℕ) (ends : ℕ → Bool)
     (a : Area) (area : AreaOf r a) (rows planes : ℕ)
-    (outside : (n j i x : ℕ) → i < r .lines → x < r .across → Beside a i x → reachFrom (around back W H (2 ^ index)) g ends n j (placeIn r i x) ≡ 0)
-    (too-far : (n j i x : ℕ) → InArea a i x → roomIn a back i x < n → reachFrom (around back W H (2 ^ index)) g ends n j (placeIn r i x) ≡ 0) where
+    (outside : (n j i x : ℕ) → i < r .lines → x < r .across → Beside a i x → bestWalkTo (around back W H (2 ^ index)) g ends n j (placeIn r i x) ≡ 0)
+    (too-far : (n j i x : ℕ) → InArea a i x → roomIn a back i x < n → bestWalkTo (around back W H (2 ^ index)) g ends n j (placeIn r i x) ≡ 0) where
   abbrev p : Plan
   p = rankedPlan r by-rows back a rows planes
 
   abbrev walks : ℕ → ℕ → ℕ → ℕ
-  walks = reachFrom (around back W H (2 ^ index)) g ends
+  walks = bestWalkTo (around back W H (2 ^ index)) g ends
 
   abbrev number : ℕ → ℕ → ℕ → ℕ → ℕ
   number = numberAt r p (around back W H (2 ^ index)) g ends

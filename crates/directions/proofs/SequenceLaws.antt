@@ -17,8 +17,8 @@ use Rattle.plans.specs.declared.plan.Plan.{Plan}
 use Rattle.directions.specs.Plans.{straightPlan, stillPlan, rankedPlan, wholeArea, AreaOf, spareOf, byRanks, filterPlan, filterStates}
 use Rattle.directions.specs.Numbers.{numberAt}
 use Rattle.theory.specs.Walks.{around}
-use Rattle.theory.specs.Ranks.{room}
-use Rattle.theory.specs.BestWalks.{reachFrom}
+use Rattle.theory.specs.Ranks.{stepsLeft}
+use Rattle.theory.specs.BestWalks.{bestWalkTo}
 use Rattle.directions.proofs.ChoiceLaws.{whole-area}
 use Rattle.directions.proofs.SpotRows.{Beside}
 use Rattle.directions.proofs.GrownLaws.{Keyed}
@@ -44,15 +44,15 @@ module _ (r : Frame) (W H index : ℕ) (framed : Framed r W H index) where
 
   module _ (i x : ℕ) (on : i < r .lines) (column : x < r .across) where
     -- a walk has no more steps than there is room
-    pub no-walk : index < 4 → (g : ℕ → ℕ) (ends : ℕ → Bool) (back : Bool) (n j : ℕ) → room W H (2 ^ index) back (placeIn r i x) < n →
-        reachFrom (around back W H (2 ^ index)) g ends n j (placeIn r i x) ≡ 0
+    pub no-walk : index < 4 → (g : ℕ → ℕ) (ends : ℕ → Bool) (back : Bool) (n j : ℕ) → stepsLeft W H (2 ^ index) back (placeIn r i x) < n →
+        bestWalkTo (around back W H (2 ^ index)) g ends n j (placeIn r i x) ≡ 0
     no-walk known g ends back n j h =
         let none = reach-none (around back W H (2 ^ index)) g n j (placeIn r i x)
         (λ ps w. omega (arith, side W H (2 ^ index) (bit-listed index known) back .fits (framed .lies i x on column) w)) in
         omega (arith, none, from-below (around back W H (2 ^ index)) g ends n j (placeIn r i x))
 
     -- on a diagonal, as many ranks as are left of the frame
-    pub slanted-room : (back : Bool) → r .diagonal ≡ true → room W H (2 ^ index) back (placeIn r i x) ≡ roomIn (wholeArea r) back i x
+    pub slanted-room : (back : Bool) → r .diagonal ≡ true → stepsLeft W H (2 ^ index) back (placeIn r i x) ≡ roomIn (wholeArea r) back i x
     slanted-room true slanted = framed .room-back i x on column ∙ rw slanted
     slanted-room false slanted = framed .room-on i x on column ∙ rw slanted (omega arith)
 

@@ -13,7 +13,7 @@ use borrow.Author.Tests.{eqb-true, eq-eqb, leb-true}
 use Rattle.basics.proofs.Numbers.{le-or-lt, le-max-split}
 use Rattle.theory.proofs.Maxima.{best-find, best-keep}
 use Rattle.frames.specs.Steps.{gate}
-use Rattle.frames.specs.Frames.{turned, placeIn, spot, past, onward, Framed}
+use Rattle.frames.specs.Frames.{countedFrom, placeIn, spot, past, onward, Framed}
 use Rattle.frames.specs.declared.frame.Frame.{Frame}
 use Rattle.frames.proofs.SpotLaws.{turned-below, turned-twice}
 use Rattle.frames.proofs.FrameSpots.{spot-on, onward-straight, onward-diagonal}
@@ -26,20 +26,20 @@ digits-same : (w a b c d : ℕ) → b < w → d < w → a * w + b ≡ c * w + d 
 digits-same w a b c d h k e =
     (sym (digits-div a h) ∙ ap (λ (n : ℕ). n / w) e ∙ digits-div c k, sym (digits-mod a h) ∙ ap (λ (n : ℕ). n % w) e ∙ digits-mod c k)
 
-turned-same : (b : Bool) (n i k : ℕ) → i < n → k < n → turned b n i ≡ turned b n k → i ≡ k
-turned-same b n i k h l e = sym (turned-twice b n i h) ∙ ap (turned b n) e ∙ turned-twice b n k l
+turned-same : (b : Bool) (n i k : ℕ) → i < n → k < n → countedFrom b n i ≡ countedFrom b n k → i ≡ k
+turned-same b n i k h l e = sym (turned-twice b n i h) ∙ ap (countedFrom b n) e ∙ turned-twice b n k l
 
 module _ (r : Frame) (i x k z : ℕ) (hi : i < r .lines) (hx : x < r .across) (hk : k < r .lines) (hz : z < r .across) where
   turned-both :
-      (turned (r .flipped) (r .lines) i ≡ turned (r .flipped) (r .lines) k) × (turned (r .mirrored) (r .across) x ≡ turned (r .mirrored) (r .across) z) →
+      (countedFrom (r .flipped) (r .lines) i ≡ countedFrom (r .flipped) (r .lines) k) × (countedFrom (r .mirrored) (r .across) x ≡ countedFrom (r .mirrored) (r .across) z) →
       (i ≡ k) × (x ≡ z)
   turned-both e = (turned-same (r .flipped) (r .lines) i k hi hk (e .0), turned-same (r .mirrored) (r .across) x z hx hz (e .1))
 
   rows-same : r .leap ≡ r .across → r .hop ≡ 1 → placeIn r i x ≡ placeIn r k z → (i ≡ k) × (x ≡ z)
   unfolding placeIn
   rows-same a b e =
-      let e′ : turned (r .flipped) (r .lines) i * r .across + turned (r .mirrored) (r .across) x
-      ≡ turned (r .flipped) (r .lines) k * r .across + turned (r .mirrored) (r .across) z =
+      let e′ : countedFrom (r .flipped) (r .lines) i * r .across + countedFrom (r .mirrored) (r .across) x
+      ≡ countedFrom (r .flipped) (r .lines) k * r .across + countedFrom (r .mirrored) (r .across) z =
       omega (arith, rw (a, b) at e) in
       turned-both
       (digits-same (r .across) _ _ _ _ (turned-below (r .mirrored) (r .across) x hx) (turned-below (r .mirrored) (r .across) z hz) e′)
@@ -47,8 +47,8 @@ module _ (r : Frame) (i x k z : ℕ) (hi : i < r .lines) (hx : x < r .across) (h
   columns-same : r .leap ≡ 1 → r .hop ≡ r .lines → placeIn r i x ≡ placeIn r k z → (i ≡ k) × (x ≡ z)
   unfolding placeIn
   columns-same a b e =
-      let e′ : turned (r .mirrored) (r .across) x * r .lines + turned (r .flipped) (r .lines) i
-      ≡ turned (r .mirrored) (r .across) z * r .lines + turned (r .flipped) (r .lines) k =
+      let e′ : countedFrom (r .mirrored) (r .across) x * r .lines + countedFrom (r .flipped) (r .lines) i
+      ≡ countedFrom (r .mirrored) (r .across) z * r .lines + countedFrom (r .flipped) (r .lines) k =
       omega (arith, rw (a, b) at e) in
       let s = digits-same (r .lines) _ _ _ _ (turned-below (r .flipped) (r .lines) i hi) (turned-below (r .flipped) (r .lines) k hk) e′ in
       turned-both (s .1, s .0)

@@ -1,6 +1,6 @@
 -- Single lines of a diagonal: state e is a line, and row m its walks of m steps. A step along the line leads to the row before of the same state, and
 -- one to the line before leads to the row before of the last state; before the first line there is none, and no walk. So the states grow as
--- `reachFrom` does. Whether lines are rows of the plate only orders the three steps.
+-- `bestWalkTo` does. Whether lines are rows of the plate only orders the three steps.
 use Prim.Native.Nat.{ℕ, zero, suc, _+_, _-_, _^_, _<_}
 use mathlib.Core.Path.{_≡_, refl, sym, ap, _∙_}
 use mathlib.Core.Bool.{Bool, true, false}
@@ -12,7 +12,7 @@ use Rattle.states.specs.States.{rowBefore, lastBefore, seen, ahead, Grown}
 use Rattle.plans.specs.declared.plan.Plan.{Plan}
 use Rattle.directions.specs.Plans.{stillPlan}
 use Rattle.directions.specs.Numbers.{numberAt}
-use Rattle.theory.specs.BestWalks.{reachFrom}
+use Rattle.theory.specs.BestWalks.{bestWalkTo}
 use Rattle.theory.specs.Walks.{around}
 use Rattle.directions.proofs.SpotRows.{spot-zero, line-row}
 use Rattle.directions.proofs.TapLaws.{diagonal-taps}
@@ -46,7 +46,7 @@ module _ (r : Frame) (W H index : ℕ) (framed : Framed r W H index) (slanted : 
   p = stillPlan r by-rows back rows planes
 
   abbrev walks : ℕ → ℕ → ℕ → ℕ
-  walks = reachFrom (around back W H (2 ^ index)) g ends
+  walks = bestWalkTo (around back W H (2 ^ index)) g ends
 
   abbrev number : ℕ → ℕ → ℕ → ℕ → ℕ
   number = numberAt r p (around back W H (2 ^ index)) g ends

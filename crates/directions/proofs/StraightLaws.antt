@@ -1,5 +1,5 @@
 -- Windows of lines in a straight direction: row m of a state is the walks of m steps, and each of the three steps leads to the line before, whose walks
--- of one step fewer are the row before of the same state. So the states grow as `reachFrom` does.
+-- of one step fewer are the row before of the same state. So the states grow as `bestWalkTo` does.
 use Prim.Native.Nat.{ℕ, suc, _^_, _<_}
 use mathlib.Core.Path.{_≡_, refl, ap, _∙_}
 use mathlib.Core.Bool.{Bool, true, false}
@@ -12,7 +12,7 @@ use Rattle.plans.specs.declared.plan.Plan.{Plan}
 use Rattle.directions.specs.Plans.{straightPlan, AreaOf}
 use Rattle.directions.specs.Numbers.{numberAt}
 use Rattle.directions.specs.declared.plan.Area.{Area}
-use Rattle.theory.specs.BestWalks.{reachFrom}
+use Rattle.theory.specs.BestWalks.{bestWalkTo}
 use Rattle.theory.specs.Walks.{around}
 use Rattle.directions.proofs.SpotRows.{line-row}
 use Rattle.directions.proofs.TapLaws.{straight-taps}
@@ -37,7 +37,7 @@ module _ (r : Frame) (W H index : ℕ) (framed : Framed r W H index) (straight :
   p = straightPlan r back a rows planes
 
   abbrev walks : ℕ → ℕ → ℕ → ℕ
-  walks = reachFrom (around back W H (2 ^ index)) g ends
+  walks = bestWalkTo (around back W H (2 ^ index)) g ends
 
   abbrev number : ℕ → ℕ → ℕ → ℕ → ℕ
   number = numberAt r p (around back W H (2 ^ index)) g ends

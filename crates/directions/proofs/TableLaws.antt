@@ -9,7 +9,7 @@ use borrow.Author.Tests.{leb-true, leb-false, eq-eqb, ne-eqb}
 use Rattle.basics.proofs.Numbers.{below-four}
 use Rattle.plate.specs.Directions.{table, stepAt}
 use Rattle.plate.specs.Sizes.{GoodSize}
-use Rattle.frames.specs.Steps.{plusOne, biased, across, down}
+use Rattle.frames.specs.Steps.{plusOne, biased, columnsOn, rowsOn}
 use Rattle.frames.specs.Frames.{Framed}
 use Rattle.frames.specs.declared.frame.Frame.{Frame}
 use Rattle.frames.proofs.PlateLines.{rows, columns}
@@ -22,18 +22,18 @@ use Rattle.directions.specs.declared.plan.Course.{Course}
 -- ---- the frame
 
 -- the middle step of a diagonal changes column and row
-middle-diagonal : (index : ℕ) → index < 4 → (not (eqb (across index 1 false) 1) && not (eqb (down index 1 false) 1)) ≡ leb 2 index
-unfolding across down biased plusOne stepAt table
+middle-diagonal : (index : ℕ) → index < 4 → (not (eqb (columnsOn index 1 false) 1) && not (eqb (rowsOn index 1 false) 1)) ≡ leb 2 index
+unfolding columnsOn rowsOn biased plusOne stepAt table
 middle-diagonal =
-    below-four (λ (n : ℕ). (not (eqb (across n 1 false) 1) && not (eqb (down n 1 false) 1)) ≡ leb 2 n) refl refl refl refl
+    below-four (λ (n : ℕ). (not (eqb (columnsOn n 1 false) 1) && not (eqb (rowsOn n 1 false) 1)) ≡ leb 2 n) refl refl refl refl
 
 module _ (W H : ℕ) (sized : GoodSize W H) where
   -- the frame whose lines are rows, and the one whose lines are columns, as the middle step gives them
   abbrev rowsBy : ℕ → Frame
-  rowsBy n = rows W H (eqb (down n 1 false) 2) (eqb (across n 1 false) 2) (leb 2 n)
+  rowsBy n = rows W H (eqb (rowsOn n 1 false) 2) (eqb (columnsOn n 1 false) 2) (leb 2 n)
 
   abbrev columnsBy : ℕ → Frame
-  columnsBy n = columns W H (eqb (across n 1 false) 2) (eqb (down n 1 false) 2) (leb 2 n)
+  columnsBy n = columns W H (eqb (columnsOn n 1 false) 2) (eqb (rowsOn n 1 false) 2) (leb 2 n)
 
   abbrev RowsFrame : ℕ → Type 0
   RowsFrame n = byRows W H n ≡ true → Framed (rowsBy n) W H n × FrameOf (rowsBy n) W H n
@@ -57,7 +57,7 @@ module _ (W H : ℕ) (sized : GoodSize W H) where
       }
 
   rows-frame : (index : ℕ) → index < 4 → RowsFrame index
-  unfolding across down biased plusOne stepAt table byRows
+  unfolding columnsOn rowsOn biased plusOne stepAt table byRows
   rows-frame =
       below-four RowsFrame
       (λ e. (
@@ -83,7 +83,7 @@ module _ (W H : ℕ) (sized : GoodSize W H) where
       ))
 
   columns-frame : (index : ℕ) → index < 4 → ColumnsFrame index
-  unfolding across down biased plusOne stepAt table byRows
+  unfolding columnsOn rowsOn biased plusOne stepAt table byRows
   columns-frame =
       below-four ColumnsFrame
       (λ e. absurd (true≢false e))
@@ -123,7 +123,7 @@ module _ (W H : ℕ) (sized : GoodSize W H) where
   frame-told r index known e = rw e (frame-known index known)
 
 -- the frame by the numbers that the code has read
-module _ (W H index column row : ℕ) (diagonal : Bool) (is-column : column ≡ across index 1 false) (is-row : row ≡ down index 1 false)
+module _ (W H index column row : ℕ) (diagonal : Bool) (is-column : column ≡ columnsOn index 1 false) (is-row : row ≡ rowsOn index 1 false)
     (is-diagonal : diagonal ≡ (not (eqb column 1) && not (eqb row 1))) where
   pub frame-by-rows : byRows W H index ≡ true → rows W H (eqb row 2) (eqb column 2) diagonal ≡ frameOf W H index
   unfolding frameOf
@@ -170,21 +170,21 @@ module _ (r : Frame) where
       (back ranked : Bool) → reachOn (inFrame r n by-rows) (inCourse n by-rows back) ranked ≡ reachIn (inFrame r n by-rows) by-rows ranked back
 
   north-read : Read 0 true
-  unfolding pixelsOn linesOn rowBy across down biased plusOne stepAt table
+  unfolding pixelsOn linesOn rowBy columnsOn rowsOn biased plusOne stepAt table
   north-read true true = refl
   north-read true false = refl
   north-read false true = refl
   north-read false false = refl
 
   east-read : Read 1 false
-  unfolding pixelsOn linesOn rowBy across down biased plusOne stepAt table
+  unfolding pixelsOn linesOn rowBy columnsOn rowsOn biased plusOne stepAt table
   east-read true true = refl
   east-read true false = refl
   east-read false true = refl
   east-read false false = refl
 
   north-east-read : (by-rows : Bool) → Read 2 by-rows
-  unfolding pixelsOn linesOn rowBy across down biased plusOne stepAt table
+  unfolding pixelsOn linesOn rowBy columnsOn rowsOn biased plusOne stepAt table
   north-east-read true true true = refl
   north-east-read true true false = refl
   north-east-read true false true = refl
@@ -195,7 +195,7 @@ module _ (r : Frame) where
   north-east-read false false false = refl
 
   south-east-read : (by-rows : Bool) → Read 3 by-rows
-  unfolding pixelsOn linesOn rowBy across down biased plusOne stepAt table
+  unfolding pixelsOn linesOn rowBy columnsOn rowsOn biased plusOne stepAt table
   south-east-read true true true = refl
   south-east-read true true false = refl
   south-east-read true false true = refl

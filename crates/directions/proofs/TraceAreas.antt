@@ -18,7 +18,7 @@ use Rattle.frames.specs.declared.frame.Frame.{Frame}
 use Rattle.directions.specs.Plans.{FrameOf, AreaOf}
 use Rattle.directions.specs.Traces.{traceArea, SpotOf}
 use Rattle.directions.specs.declared.frame.Spot.{Spot}
-use Rattle.theory.specs.BestWalks.{reachFrom, alone, fewer, best}
+use Rattle.theory.specs.BestWalks.{bestWalkTo, alone, fewer, best}
 use Rattle.theory.specs.Walks.{around}
 use Rattle.directions.proofs.StepPlaces.{Neighbour, nearer, further, clash, straight-step, diagonal-step, place-injective, step-place}
 
@@ -26,7 +26,7 @@ use Rattle.directions.proofs.StepPlaces.{Neighbour, nearer, further, cl
 
 module _ (next : ℕ → List ℕ) (g : ℕ → ℕ) (ends : ℕ → Bool) where
   -- at the last pixel the test is passed
-  start-some : (j p : ℕ) → 1 ≤ reachFrom next g ends 0 j p → ends p ≡ true
+  start-some : (j p : ℕ) → 1 ≤ bestWalkTo next g ends 0 j p → ends p ≡ true
   start-some j p h = go (ends p) refl (omega (arith, from-start next g ends j p))
     where
       go : (b : Bool) → ends p ≡ b → 1 ≤ cond b (alone (g p) j) 0 → ends p ≡ true
@@ -34,16 +34,16 @@ module _ (next : ℕ → List ℕ) (g : ℕ → ℕ) (ends : ℕ → Bool) where
       go false e l = absurd (omega arith)
 
   -- before it some step leads on
-  pub step-some : (m j p : ℕ) → 1 ≤ reachFrom next g ends (suc m) j p → (q : ℕ) × (k : ℕ) × List·Memᴰ q (next p) × (1 ≤ reachFrom next g ends m k q)
+  pub step-some : (m j p : ℕ) → 1 ≤ bestWalkTo next g ends (suc m) j p → (q : ℕ) × (k : ℕ) × List·Memᴰ q (next p) × (1 ≤ bestWalkTo next g ends m k q)
   unfolding fewer
   step-some m zero p h =
-      let s = best-find (reachFrom next g ends m zero) 1 (next p) (omega arith) (omega (arith, from-step next g ends m zero p)) in
+      let s = best-find (bestWalkTo next g ends m zero) 1 (next p) (omega arith) (omega (arith, from-step next g ends m zero p)) in
       (s .0, zero, s .1, s .2)
   step-some m (suc j) p h =
       ⊎-elim
-      (λ l. let s = best-find (reachFrom next g ends m (suc j)) 1 (next p) (omega arith) (omega (arith, l)) in (s .0, suc j, s .1, s .2))
-      (λ l. let s = best-find (reachFrom next g ends m j) 1 (next p) (omega arith) l in (s .0, j, s .1, s .2))
-      (le-max-split 1 (min (g p) (best (reachFrom next g ends m (suc j)) (next p))) (best (reachFrom next g ends m j) (next p))
+      (λ l. let s = best-find (bestWalkTo next g ends m (suc j)) 1 (next p) (omega arith) (omega (arith, l)) in (s .0, suc j, s .1, s .2))
+      (λ l. let s = best-find (bestWalkTo next g ends m j) 1 (next p) (omega arith) l in (s .0, j, s .1, s .2))
+      (le-max-split 1 (min (g p) (best (bestWalkTo next g ends m (suc j)) (next p))) (best (bestWalkTo next g ends m j) (next p))
       (omega (arith, from-step next g ends m (suc j) p)))
 
 -- ---- the cone of the walks of n steps to a spot
@@ -160,7 +160,7 @@ trace-area r false s target S =
 
 -- the best walk of n steps with at most j gaps from a place to the picked one
 abbrev pub traced : ℕ → ℕ → ℕ → Bool → (ℕ → ℕ) → ℕ → ℕ → ℕ → ℕ → ℕ
-traced W H index back g target n j p = reachFrom (around back W H (2 ^ index)) g (λ q. eqb q target) n j p
+traced W H index back g target n j p = bestWalkTo (around back W H (2 ^ index)) g (λ q. eqb q target) n j p
 
 module _
     (r : Frame) (W H index : ℕ) (F : Framed r W H index) (O : FrameOf r W H index) (back : Bool) (s : Spot) (target : ℕ) (S : SpotOf r s target) (g : ℕ → ℕ) where

@@ -7,7 +7,7 @@ use native.Mathlib.Nat.{div-add-mod', mul-one}
 use native.Mathlib.Omega.{arith}
 use Rattle.plate.specs.Sizes.{GoodSize}
 use Rattle.theory.proofs.Steps.{column-below, row-below}
-use Rattle.frames.specs.Frames.{turned, placeIn}
+use Rattle.frames.specs.Frames.{countedFrom, placeIn}
 use Rattle.frames.specs.declared.frame.Frame.{Frame}
 use Rattle.frames.proofs.SpotLaws.{turned-below, turned-twice}
 use Rattle.directions.specs.Plans.{straightPlan, rankedPlan, byRows, AreaOf, FrameOf}
@@ -62,12 +62,12 @@ module _ (r : Frame) (W H index p : ℕ) (of : FrameOf r W H index) (on : p < W 
 
 -- the spot by the numbers that the code has turned
 module _ (W H index p line pixel : ℕ) (r : Frame) (is-frame : r ≡ frameOf W H index) where
-  pub spot-by-rows : byRows W H index ≡ true → line ≡ turned (r .flipped) (r .lines) (p / W) → pixel ≡ turned (r .mirrored) (r .across) (p % W) →
+  pub spot-by-rows : byRows W H index ≡ true → line ≡ countedFrom (r .flipped) (r .lines) (p / W) → pixel ≡ countedFrom (r .mirrored) (r .across) (p % W) →
       record { line = line; pixel = pixel } ≡ spotOf W H index p
   unfolding spotOf
   spot-by-rows e is-line is-pixel = rw (e, is-line, is-pixel, is-frame) refl
 
-  pub spot-by-columns : byRows W H index ≡ false → line ≡ turned (r .flipped) (r .lines) (p % W) → pixel ≡ turned (r .mirrored) (r .across) (p / W) →
+  pub spot-by-columns : byRows W H index ≡ false → line ≡ countedFrom (r .flipped) (r .lines) (p % W) → pixel ≡ countedFrom (r .mirrored) (r .across) (p / W) →
       record { line = line; pixel = pixel } ≡ spotOf W H index p
   unfolding spotOf
   spot-by-columns e is-line is-pixel = rw (e, is-line, is-pixel, is-frame) refl

@@ -1,4 +1,4 @@
--- The plans of a trace are well-formed, their states follow each other as `reachFrom` does for the walks to the picked pixel alone, and they find room: a
+-- The plans of a trace are well-formed, their states follow each other as `bestWalkTo` does for the walks to the picked pixel alone, and they find room: a
 -- trace has one of two kinds of plans, and what is known of each kind is told of the one that it has. Off the area of a trace, and too far on it, there
 -- are no walks to the picked pixel.
 use Prim.Native.Nat.{ℕ, _+_, _-_, _*_, _^_, _≤_, _<_, min}
@@ -18,7 +18,7 @@ use Rattle.directions.specs.Numbers.{stepsAt, pixelIn, numberAt, placeKe
 use Rattle.directions.specs.Plans.{straightPlan, rankedPlan, AreaOf, FrameOf}
 use Rattle.directions.specs.Traces.{traceArea, tracePlan, traceStates, SpotOf}
 use Rattle.directions.specs.declared.frame.Spot.{Spot}
-use Rattle.theory.specs.BestWalks.{reachFrom}
+use Rattle.theory.specs.BestWalks.{bestWalkTo}
 use Rattle.theory.specs.Walks.{around}
 use Rattle.directions.proofs.GrownLaws.{Keyed, StartsBy}
 use Rattle.directions.proofs.KeptLaws.{RowOn, PlanOn, kept-on, kept-inside, sized-straight, sized-ranked, on-straight, on-ranked}
@@ -187,7 +187,7 @@ module _ (r : Frame) (W H index : ℕ) (F : Framed r W H index) where
 
     module _ (g keys : ℕ → ℕ) where
       outside : r .diagonal ≡ true → (n j i z : ℕ) → i < r .lines → z < r .across → Beside (traceArea r back s) i z →
-          reachFrom (around back W H (2 ^ index)) g (λ q. eqb q x) n j (placeIn r i z) ≡ 0
+          bestWalkTo (around back W H (2 ^ index)) g (λ q. eqb q x) n j (placeIn r i z) ≡ 0
       outside d n j i z hi hz out =
           ⊎-elim
           (λ o. trace-outside-lines r W H index F O back s x S g n j i z hi hz (inl o))
@@ -197,7 +197,7 @@ module _ (r : Frame) (W H index : ℕ) (F : Framed r W H index) where
           out
 
       too-far : r .diagonal ≡ true → (n j i z : ℕ) → InArea (traceArea r back s) i z → roomIn (traceArea r back s) back i z < n →
-          reachFrom (around back W H (2 ^ index)) g (λ q. eqb q x) n j (placeIn r i z) ≡ 0
+          bestWalkTo (around back W H (2 ^ index)) g (λ q. eqb q x) n j (placeIn r i z) ≡ 0
       too-far d n j i z inside h =
           trace-too-far r W H index F O back s x S g d n j i z (omega (arith, inside .over-bottom, area .low))
           (omega (arith, inside .before-right, area .narrow)) h

@@ -8,8 +8,8 @@ use lib.IntN.{ℤ}
 use Rattle.plate.specs.Limits.{maxLength, maxGaps}
 use Rattle.plate.specs.Sizes.{spanOf}
 use Rattle.plate.specs.declared.setting.Setting.{Setting}
-use Rattle.frames.specs.Steps.{across, down}
-use Rattle.frames.specs.Frames.{turned}
+use Rattle.frames.specs.Steps.{columnsOn, rowsOn}
+use Rattle.frames.specs.Frames.{countedFrom}
 use Rattle.frames.specs.declared.frame.Frame.{Frame}
 use Rattle.theory.specs.Walks.{opposite}
 use Rattle.plans.specs.declared.plan.Plan.{Plan}
@@ -23,8 +23,8 @@ use Rattle.directions.specs.declared.sight.Sight.{Sight}
 -- the frame of the direction at this index, by its middle step in the table: its lines are rows or columns of the plate
 unfoldable pub frameOf : ℕ → ℕ → ℕ → Frame
 frameOf W H index =
-    let column = across index 1 false in
-    let row = down index 1 false in
+    let column = columnsOn index 1 false in
+    let row = rowsOn index 1 false in
     let diagonal = not (eqb column 1) && not (eqb row 1) in
     cond (byRows W H index)
     (record { lines = H; across = W; leap = W; hop = 1; flipped = eqb row 2; mirrored = eqb column 2; diagonal = diagonal })
@@ -32,7 +32,7 @@ frameOf W H index =
 
 -- the pixel of a frame that stands at a line and a pixel of the plate's own count
 abbrev pub spotIn : Frame → ℕ → ℕ → Spot
-spotIn r i x = record { line = turned (r .flipped) (r .lines) i; pixel = turned (r .mirrored) (r .across) x }
+spotIn r i x = record { line = countedFrom (r .flipped) (r .lines) i; pixel = countedFrom (r .mirrored) (r .across) x }
 
 -- where the pixel at a place stands in the frame
 unfoldable pub spotOf : ℕ → ℕ → ℕ → ℕ → Spot

@@ -10,7 +10,7 @@ use Rattle.plate.specs.Opening.{levelAt}
 use Rattle.frames.specs.Keys.{keyBy}
 use Rattle.frames.specs.declared.frame.Frame.{Frame}
 use Rattle.directions.specs.Numbers.{placeKept}
-use Rattle.theory.specs.BestWalks.{keyAt, across}
+use Rattle.theory.specs.BestWalks.{keyAt, bestThrough}
 use Rattle.theory.specs.Walks.{around}
 
 -- the levels of the places whose numbers stand from lo below hi have risen to them, and no level further than something that they are not above
@@ -23,7 +23,7 @@ pub record Risen (r : Frame) (ranked : Bool) (best : List ℕ) (old new : List �
 -- the best walk through a pixel, in a direction and a mode
 unfoldable pub bestOf : ℕ → ℕ → ℕ → ℕ → ℕ → ℕ → List ℤ → ℕ → ℕ
 bestOf W H index mode steps k plate x =
-    across (around false W H (2 ^ index)) (around true W H (2 ^ index)) (λ p. keyBy mode (levelAt plate p)) steps k x
+    bestThrough (around false W H (2 ^ index)) (around true W H (2 ^ index)) (λ p. keyBy mode (levelAt plate p)) steps k x
 
 -- the levels from lo below hi have risen to f where they were lower, and the others are as they were
 pub record Raised (f : ℕ → ℕ) (old new : List ℤ) (lo hi : ℕ) : Type 0 where

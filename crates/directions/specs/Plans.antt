@@ -8,7 +8,7 @@ use Rattle.plans.specs.declared.plan.Plan.{Plan}
 use Rattle.plans.specs.declared.plan.Reach.{Reach}
 use Rattle.directions.specs.declared.plan.Area.{Area}
 use Rattle.directions.specs.declared.plan.Course.{Course}
-use Rattle.frames.specs.Steps.{across, down}
+use Rattle.frames.specs.Steps.{columnsOn, rowsOn}
 
 -- ---- where the three steps find their numbers, in the table's order
 
@@ -34,10 +34,10 @@ reachIn r rows ranked back = cond (r .diagonal) (diagonalReach rows ranked back)
 -- row it finds its number
 unfoldable pub pixelsOn : Frame → Course → ℕ → ℕ
 pixelsOn r c number =
-    let turned = cond (c .back) (not (r .mirrored)) (r .mirrored) in cond (c .rows) (across (c .index) number turned) (down (c .index) number turned)
+    let turned = cond (c .back) (not (r .mirrored)) (r .mirrored) in cond (c .rows) (columnsOn (c .index) number turned) (rowsOn (c .index) number turned)
 
 unfoldable pub linesOn : Course → ℕ → Bool
-linesOn c number = not (eqb (cond (c .rows) (down (c .index) number false) (across (c .index) number false)) 1)
+linesOn c number = not (eqb (cond (c .rows) (rowsOn (c .index) number false) (columnsOn (c .index) number false)) 1)
 
 unfoldable pub rowBy : Frame → Course → Bool → ℕ → ℕ
 rowBy r c ranked number =
@@ -45,7 +45,7 @@ rowBy r c ranked number =
 
 -- whether the lines of a direction are rows: by its middle step, and on the diagonals by the plate's sides
 unfoldable pub byRows : ℕ → ℕ → ℕ → Bool
-byRows W H index = cond (eqb (across index 1 false) 1) true (cond (eqb (down index 1 false) 1) false (leb W H))
+byRows W H index = cond (eqb (columnsOn index 1 false) 1) true (cond (eqb (rowsOn index 1 false) 1) false (leb W H))
 
 -- what the frame of a direction is beside its places: which of both kinds, how it is turned, and that a diagonal has no longer lines than it has lines
 pub record FrameOf (r : Frame) (W H index : ℕ) : Type 0 where

@@ -6,7 +6,7 @@ ghost use mathlib.Core.Path.{_≡_};
 ghost use Prim.Native.Nat.{_*_, _<_};
 ghost use Rattle.plate.specs.Sizes.{GoodSize};
 ghost use Rattle.frames.specs.Frames.{Bounded, placeIn};
-ghost use Rattle.frames.specs.Frames.{turned as turnedIn};
+ghost use Rattle.frames.specs.Frames.{countedFrom};
 ghost use Rattle.directions.specs.Plans.{byRows};
 ghost use Rattle.directions.specs.Doors.{frameOf, spotOf};
 use frames::Frame;
@@ -62,9 +62,9 @@ pub(crate) fn frame_of(width: usize, height: usize, index: usize) -> Frame
 }
 
 // A number below n, or counted from the last one.
-fn turned(last: bool, n: usize, i: usize) -> usize
+fn counted_from(last: bool, n: usize, i: usize) -> usize
     requires { ⌜ i < n ⌝ }
-    ensures { λ r. ⌜ (r ≡ turnedIn last n i) × (r < n) ⌝ }
+    ensures { λ r. ⌜ (r ≡ countedFrom last n i) × (r < n) ⌝ }
 {
     if last { n - 1 - i } else { i }
 }
@@ -75,8 +75,8 @@ pub(crate) fn place(frame: Frame, line: usize, pixel: usize) -> usize
     requires { ⌜ (line < frame .lines) × (pixel < frame .across) ⌝ }
     ensures { λ r. ⌜ r ≡ placeIn frame line pixel ⌝ }
 {
-    let i = turned(frame.flipped, frame.lines, line);
-    let x = turned(frame.mirrored, frame.across, pixel);
+    let i = counted_from(frame.flipped, frame.lines, line);
+    let x = counted_from(frame.mirrored, frame.across, pixel);
     i * frame.leap + x * frame.hop
 }
 
@@ -89,12 +89,12 @@ pub(crate) fn spot_of(width: usize, height: usize, index: usize, frame: Frame, a
     let row = at / width;
     if by_rows(width, height, index) {
         return Spot {
-            line: turned(frame.flipped, frame.lines, row),
-            pixel: turned(frame.mirrored, frame.across, column),
+            line: counted_from(frame.flipped, frame.lines, row),
+            pixel: counted_from(frame.mirrored, frame.across, column),
         };
     }
     Spot {
-        line: turned(frame.flipped, frame.lines, column),
-        pixel: turned(frame.mirrored, frame.across, row),
+        line: counted_from(frame.flipped, frame.lines, column),
+        pixel: counted_from(frame.mirrored, frame.across, row),
     }
 }

@@ -23,15 +23,15 @@ use Rattle.theory.proofs.Mirror.{turned-levels, filtered-length, levelAt-filter
 use Rattle.frames.specs.Keys.{keyBy, levelBy}
 use Rattle.engine.specs.Finishing.{bestOfAll, Blank, Gathered, Finished}
 use Rattle.theory.specs.BestWalks.{keyAt, value}
-use Rattle.theory.specs.Modes.{Levels, turned}
+use Rattle.theory.specs.Modes.{Levels, asMode}
 
 -- the key by the mode is the key of a turned level, and the level by the mode a turned level
-turned-key : (s : Setting) (v : ℤ) → key (turned s v) ≡ keyBy (s .mode) v
-unfolding turned keyBy
+turned-key : (s : Setting) (v : ℤ) → key (asMode s v) ≡ keyBy (s .mode) v
+unfolding asMode keyBy
 turned-key s v = ⊎-elim (λ e. rw e) (λ e. rw e) (true-or-false (eqb (s .mode) 0))
 
-turned-level : (s : Setting) (k : ℕ) → turned s (level k) ≡ levelBy (s .mode) k
-unfolding turned levelBy
+turned-level : (s : Setting) (k : ℕ) → asMode s (level k) ≡ levelBy (s .mode) k
+unfolding asMode levelBy
 turned-level s k = ⊎-elim (λ e. rw e) (λ e. rw e) (true-or-false (eqb (s .mode) 0))
 
 module _ (s : Setting) (W H : ℕ) (plate : List ℤ) (sized : length plate ≡ W * H) (small : (x : ℕ) → x < length plate → mag (levelAt plate x) < 32768) where
@@ -42,7 +42,7 @@ module _ (s : Setting) (W H : ℕ) (plate : List ℤ) (sized : length plate ≡ 
   g p = keyBy (s .mode) (levelAt plate p)
 
   abbrev turnedPlate : List ℤ
-  turnedPlate = map (turned s) plate
+  turnedPlate = map (asMode s) plate
 
   -- the opened key of the turned plate
   abbrev valueAt : ℕ → ℕ
@@ -50,7 +50,7 @@ module _ (s : Setting) (W H : ℕ) (plate : List ℤ) (sized : length plate ≡ 
 
   same-keys : (p : ℕ) → p < W * H → keyAt turnedPlate p ≡ g p
   same-keys p on =
-      ap key (map-at (turned s) plate p lowest lowest (omega arith)) ∙ turned-key s (levelAt plate p)
+      ap key (map-at (asMode s) plate p lowest lowest (omega arith)) ∙ turned-key s (levelAt plate p)
 
   opened-key : (x : ℕ) → x < W * H → 1 ≤ s .length → openedAt s W H turnedPlate x ≡ level (valueAt x)
   opened-key x on long =
@@ -59,7 +59,7 @@ module _ (s : Setting) (W H : ℕ) (plate : List ℤ) (sized : length plate ≡ 
 
   filtered-level : (x : ℕ) → x < W * H → 1 ≤ s .length → levelAt (filtered s W H plate) x ≡ levelBy (s .mode) (valueAt x)
   filtered-level x on long =
-      levelAt-filtered s W H plate x on ∙ ap (turned s) (opened-key x on long) ∙ turned-level s (valueAt x)
+      levelAt-filtered s W H plate x on ∙ ap (asMode s) (opened-key x on long) ∙ turned-level s (valueAt x)
 
   value-gathered : (x : ℕ) → valueAt x ≡ min (g x) (bestOfAll W H s plate x)
   unfolding value bestOfAll

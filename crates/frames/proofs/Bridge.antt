@@ -8,7 +8,7 @@ use native.Mathlib.Omega.{arith}
 use Rattle.basics.proofs.Numbers.{below-three, below-four}
 use Rattle.plate.specs.Directions.{Step, table, stepAt, stepsIn, steps}
 use Rattle.plate.specs.Paths.{Reached, Reached.at, Reached.leaves, stepFrom, arrivals, reachedBy, next}
-use Rattle.frames.specs.Steps.{across, down, toward}
+use Rattle.frames.specs.Steps.{columnsOn, rowsOn, toward}
 use Rattle.theory.specs.Walks.{minus, back, around}
 use Rattle.theory.specs.BestWalks.{best}
 use Rattle.frames.proofs.PlateSpots.{plateSpot}
@@ -74,10 +74,10 @@ pub best-around :
     best f (around backwards W H (2 ^ index) p)
     ≡ max
     (max
-    (plateSpot f W H (p / W + down index 0 backwards) (p % W + across index 0 backwards))
-    (plateSpot f W H (p / W + down index 1 backwards) (p % W + across index 1 backwards)))
-    (plateSpot f W H (p / W + down index 2 backwards) (p % W + across index 2 backwards))
-unfolding across down
+    (plateSpot f W H (p / W + rowsOn index 0 backwards) (p % W + columnsOn index 0 backwards))
+    (plateSpot f W H (p / W + rowsOn index 1 backwards) (p % W + columnsOn index 1 backwards)))
+    (plateSpot f W H (p / W + rowsOn index 2 backwards) (p % W + columnsOn index 2 backwards))
+unfolding columnsOn rowsOn
 best-around f W H index backwards p known on =
     let s₀ = small-steps index 0 known (omega arith) in
     let s₁ = small-steps index 1 known (omega arith) in

@@ -10,8 +10,8 @@ use Rattle.basics.proofs.Numbers.{below-four}
 use Rattle.plate.specs.Directions.{table, stepAt}
 use Rattle.plate.specs.Paths.{span}
 use Rattle.plate.specs.Sizes.{GoodSize}
-use Rattle.frames.specs.Steps.{plusOne, biased, across, down}
-use Rattle.frames.specs.Frames.{turned, spot, past, onward, Framed}
+use Rattle.frames.specs.Steps.{plusOne, biased, columnsOn, rowsOn}
+use Rattle.frames.specs.Frames.{countedFrom, spot, past, onward, Framed}
 use Rattle.frames.specs.declared.frame.Frame.{Frame}
 use Rattle.theory.specs.Ranks.{rankAt}
 use Rattle.frames.proofs.PlateLines.{three, rows, rows-bounded, rows-on, rows-whole, rows-near, rows-rank, columns, columns-bounded, columns-on, columns-whole, columns-near, columns-rank}
@@ -52,9 +52,9 @@ room-left false n m i x h k = omega arith
 module _ (W H : ℕ) (sized : GoodSize W H) (flipped mirrored diagonal : Bool) (index : ℕ) (known : index < 4) where
   rows-framed :
       ((f : ℕ → ℕ) (back : Bool) (i x : ℕ) →
-      three (λ n. spot f (rows W H flipped mirrored diagonal) (i + turned flipped 3 (down index n back)) (x + turned mirrored 3 (across index n back)))
+      three (λ n. spot f (rows W H flipped mirrored diagonal) (i + countedFrom flipped 3 (rowsOn index n back)) (x + countedFrom mirrored 3 (columnsOn index n back)))
       ≡ onward f (rows W H flipped mirrored diagonal) back i x) →
-      ((i x : ℕ) → i < H → x < W → rankAt H (2 ^ index) (turned mirrored W x) (turned flipped H i) ≡ H - 1 - i + cond diagonal (W - 1 - x) 0) →
+      ((i x : ℕ) → i < H → x < W → rankAt H (2 ^ index) (countedFrom mirrored W x) (countedFrom flipped H i) ≡ H - 1 - i + cond diagonal (W - 1 - x) 0) →
       span W H (2 ^ index) ≡ H + cond diagonal (W - 1) 0 → Framed (rows W H flipped mirrored diagonal) W H index
   rows-framed n back l =
       record {
@@ -70,9 +70,9 @@ module _ (W H : ℕ) (sized : GoodSize W H) (flipped mirrored diagonal : Bool) (
 
   columns-framed :
       ((f : ℕ → ℕ) (back : Bool) (i x : ℕ) →
-      three (λ n. spot f (columns W H flipped mirrored diagonal) (i + turned flipped 3 (across index n back)) (x + turned mirrored 3 (down index n back)))
+      three (λ n. spot f (columns W H flipped mirrored diagonal) (i + countedFrom flipped 3 (columnsOn index n back)) (x + countedFrom mirrored 3 (rowsOn index n back)))
       ≡ onward f (columns W H flipped mirrored diagonal) back i x) →
-      ((i x : ℕ) → i < W → x < H → rankAt H (2 ^ index) (turned flipped W i) (turned mirrored H x) ≡ W - 1 - i + cond diagonal (H - 1 - x) 0) →
+      ((i x : ℕ) → i < W → x < H → rankAt H (2 ^ index) (countedFrom flipped W i) (countedFrom mirrored H x) ≡ W - 1 - i + cond diagonal (H - 1 - x) 0) →
       span W H (2 ^ index) ≡ W + cond diagonal (H - 1) 0 → Framed (columns W H flipped mirrored diagonal) W H index
   columns-framed n back l =
       record {
@@ -90,7 +90,7 @@ module _ (W H : ℕ) (sized : GoodSize W H) (flipped mirrored diagonal : Bool) (
 
 module _ (W H : ℕ) (sized : GoodSize W H) where
   north-rows : Framed (rows W H false false false) W H 0
-  unfolding turned across down biased plusOne stepAt table rankAt span
+  unfolding countedFrom columnsOn rowsOn biased plusOne stepAt table rankAt span
   north-rows =
       rows-framed W H sized false false false 0 (omega arith)
       (λ f back i x. elim back [
@@ -101,7 +101,7 @@ module _ (W H : ℕ) (sized : GoodSize W H) where
       (omega (arith, sized .wide))
 
   east-columns : Framed (columns W H true false false) W H 1
-  unfolding turned across down biased plusOne stepAt table rankAt span
+  unfolding countedFrom columnsOn rowsOn biased plusOne stepAt table rankAt span
   east-columns =
       columns-framed W H sized true false false 1 (omega arith)
       (λ f back i x. elim back [
@@ -112,7 +112,7 @@ module _ (W H : ℕ) (sized : GoodSize W H) where
       (omega (arith, sized .high))
 
   north-east-rows : Framed (rows W H false true true) W H 2
-  unfolding turned across down biased plusOne stepAt table rankAt span
+  unfolding countedFrom columnsOn rowsOn biased plusOne stepAt table rankAt span
   north-east-rows =
       rows-framed W H sized false true true 2 (omega arith)
       (λ f back i x. elim back [
@@ -123,7 +123,7 @@ module _ (W H : ℕ) (sized : GoodSize W H) where
       (omega (arith, sized .wide))
 
   north-east-columns : Framed (columns W H true false true) W H 2
-  unfolding turned across down biased plusOne stepAt table rankAt span
+  unfolding countedFrom columnsOn rowsOn biased plusOne stepAt table rankAt span
   north-east-columns =
       columns-framed W H sized true false true 2 (omega arith)
       (λ f back i x. elim back [
@@ -134,7 +134,7 @@ module _ (W H : ℕ) (sized : GoodSize W H) where
       (omega (arith, sized .high))
 
   south-east-rows : Framed (rows W H true true true) W H 3
-  unfolding turned across down biased plusOne stepAt table rankAt span
+  unfolding countedFrom columnsOn rowsOn biased plusOne stepAt table rankAt span
   south-east-rows =
       rows-framed W H sized true true true 3 (omega arith)
       (λ f back i x. elim back [
@@ -145,7 +145,7 @@ module _ (W H : ℕ) (sized : GoodSize W H) where
       (omega (arith, sized .wide))
 
   south-east-columns : Framed (columns W H true true true) W H 3
-  unfolding turned across down biased plusOne stepAt table rankAt span
+  unfolding countedFrom columnsOn rowsOn biased plusOne stepAt table rankAt span
   south-east-columns =
       columns-framed W H sized true true true 3 (omega arith)
       (λ f back i x. elim back [

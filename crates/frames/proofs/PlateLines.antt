@@ -10,10 +10,10 @@ use lib.IntN.{ℤ, pos, negsuc}
 use Rattle.plate.specs.Directions.{stepAt}
 use Rattle.plate.specs.Sizes.{GoodSize}
 use Rattle.theory.proofs.Steps.{column-below, row-below}
-use Rattle.frames.specs.Steps.{plusOne, biased, across, down}
+use Rattle.frames.specs.Steps.{plusOne, biased, columnsOn, rowsOn}
 use Rattle.frames.proofs.PlateSpots.{plateSpot}
 use Rattle.frames.proofs.Bridge.{best-around}
-use Rattle.frames.specs.Frames.{turned, placeIn, spot, Bounded}
+use Rattle.frames.specs.Frames.{countedFrom, placeIn, spot, Bounded}
 use Rattle.frames.specs.declared.frame.Frame.{Frame}
 use Rattle.theory.specs.BestWalks.{best}
 use Rattle.theory.specs.Ranks.{rank, rankAt}
@@ -54,16 +54,16 @@ unfolding biased
 near-biased true d = omega arith
 near-biased false d = near-plus d
 
-near-across : (index number : ℕ) (back : Bool) → across index number back ≤ 2
-unfolding across
+near-across : (index number : ℕ) (back : Bool) → columnsOn index number back ≤ 2
+unfolding columnsOn
 near-across index number back = near-biased back (stepAt index number .column)
 
-near-down : (index number : ℕ) (back : Bool) → down index number back ≤ 2
-unfolding down
+near-down : (index number : ℕ) (back : Bool) → rowsOn index number back ≤ 2
+unfolding rowsOn
 near-down index number back = near-biased back (stepAt index number .row)
 
-near-turned : (b : Bool) (d : ℕ) → d ≤ 2 → turned b 3 d ≤ 2
-unfolding turned
+near-turned : (b : Bool) (d : ℕ) → d ≤ 2 → countedFrom b 3 d ≤ 2
+unfolding countedFrom
 near-turned true d h = omega arith
 near-turned false d h = h
 
@@ -77,9 +77,9 @@ module _ (W H : ℕ) (flipped mirrored diagonal : Bool) where
   abbrev pub rows : Frame
   rows = rowsFrame W H flipped mirrored diagonal
 
-  rows-lies : (i x : ℕ) → i < H → x < W → Lies W H (placeIn rows i x) (turned flipped H i) (turned mirrored W x)
+  rows-lies : (i x : ℕ) → i < H → x < W → Lies W H (placeIn rows i x) (countedFrom flipped H i) (countedFrom mirrored W x)
   rows-lies i x h k =
-      lies-at W H (placeIn rows i x) (turned flipped H i) (turned mirrored W x) (rows-place W H flipped mirrored diagonal i x)
+      lies-at W H (placeIn rows i x) (countedFrom flipped H i) (countedFrom mirrored W x) (rows-place W H flipped mirrored diagonal i x)
       (turned-below flipped H i h) (turned-below mirrored W x k)
 
   pub rows-bounded : GoodSize W H → Bounded rows
@@ -101,38 +101,38 @@ module _ (W H : ℕ) (flipped mirrored diagonal : Bool) where
   rows-whole p h =
       let r< = row-below W H p h in
       let c< = column-below W H p h in (
-        turned flipped H (p / W),
-        turned mirrored W (p % W),
+        countedFrom flipped H (p / W),
+        countedFrom mirrored W (p % W),
         turned-below flipped H (p / W) r<,
         turned-below mirrored W (p % W) c<,
-        rows-place W H flipped mirrored diagonal (turned flipped H (p / W)) (turned mirrored W (p % W))
+        rows-place W H flipped mirrored diagonal (countedFrom flipped H (p / W)) (countedFrom mirrored W (p % W))
             ∙ rw (turned-twice flipped H (p / W) r<, turned-twice mirrored W (p % W) c<) (div-add-mod' p W),
       )
 
   -- the numbered step of a direction
   rows-step :
       (index number : ℕ) (f : ℕ → ℕ) (back : Bool) (i x : ℕ) → i < H → x < W →
-      plateSpot f W H (placeIn rows i x / W + down index number back) (placeIn rows i x % W + across index number back)
-      ≡ spot f rows (i + turned flipped 3 (down index number back)) (x + turned mirrored 3 (across index number back))
+      plateSpot f W H (placeIn rows i x / W + rowsOn index number back) (placeIn rows i x % W + columnsOn index number back)
+      ≡ spot f rows (i + countedFrom flipped 3 (rowsOn index number back)) (x + countedFrom mirrored 3 (columnsOn index number back))
   rows-step index number f back i x h k =
       let l = rows-lies i x h k in
       let d = near-down index number back in
       let a = near-across index number back in
-      rw (l .is-row, l .is-column, turned-step flipped H i (down index number back) h d, turned-step mirrored W x (across index number back) k a)
-      (rows-spot W H flipped mirrored diagonal f (i + turned flipped 3 (down index number back)) (x + turned mirrored 3 (across index number back))
-      (omega (arith, near-turned flipped (down index number back) d)) (omega (arith, near-turned mirrored (across index number back) a)))
+      rw (l .is-row, l .is-column, turned-step flipped H i (rowsOn index number back) h d, turned-step mirrored W x (columnsOn index number back) k a)
+      (rows-spot W H flipped mirrored diagonal f (i + countedFrom flipped 3 (rowsOn index number back)) (x + countedFrom mirrored 3 (columnsOn index number back))
+      (omega (arith, near-turned flipped (rowsOn index number back) d)) (omega (arith, near-turned mirrored (columnsOn index number back) a)))
 
   pub rows-near :
       (index : ℕ) → index < 4 → (f : ℕ → ℕ) (back : Bool) (i x : ℕ) → i < H → x < W →
       best f (around back W H (2 ^ index) (placeIn rows i x))
-      ≡ three (λ n. spot f rows (i + turned flipped 3 (down index n back)) (x + turned mirrored 3 (across index n back)))
+      ≡ three (λ n. spot f rows (i + countedFrom flipped 3 (rowsOn index n back)) (x + countedFrom mirrored 3 (columnsOn index n back)))
   rows-near index known f back i x h k =
       best-around f W H index back (placeIn rows i x) known (rows-lies i x h k .on)
       ∙ rw (rows-step index 0 f back i x h k, rows-step index 1 f back i x h k, rows-step index 2 f back i x h k)
 
-  pub rows-rank : (bit i x : ℕ) → i < H → x < W → rank W H bit (placeIn rows i x) ≡ rankAt H bit (turned mirrored W x) (turned flipped H i)
+  pub rows-rank : (bit i x : ℕ) → i < H → x < W → rank W H bit (placeIn rows i x) ≡ rankAt H bit (countedFrom mirrored W x) (countedFrom flipped H i)
   rows-rank bit i x h k =
-      ranked-at W H bit (placeIn rows i x) (turned flipped H i) (turned mirrored W x) (rows-lies i x h k)
+      ranked-at W H bit (placeIn rows i x) (countedFrom flipped H i) (countedFrom mirrored W x) (rows-lies i x h k)
 
 -- ---- lines that are columns
 
@@ -140,9 +140,9 @@ module _ (W H : ℕ) (flipped mirrored diagonal : Bool) where
   abbrev pub columns : Frame
   columns = columnsFrame W H flipped mirrored diagonal
 
-  columns-lies : (i x : ℕ) → i < W → x < H → Lies W H (placeIn columns i x) (turned mirrored H x) (turned flipped W i)
+  columns-lies : (i x : ℕ) → i < W → x < H → Lies W H (placeIn columns i x) (countedFrom mirrored H x) (countedFrom flipped W i)
   columns-lies i x h k =
-      lies-at W H (placeIn columns i x) (turned mirrored H x) (turned flipped W i) (columns-place W H flipped mirrored diagonal i x)
+      lies-at W H (placeIn columns i x) (countedFrom mirrored H x) (countedFrom flipped W i) (columns-place W H flipped mirrored diagonal i x)
       (turned-below mirrored H x k) (turned-below flipped W i h)
 
   pub columns-bounded : GoodSize W H → Bounded columns
@@ -164,34 +164,34 @@ module _ (W H : ℕ) (flipped mirrored diagonal : Bool) where
   columns-whole p h =
       let r< = row-below W H p h in
       let c< = column-below W H p h in (
-        turned flipped W (p % W),
-        turned mirrored H (p / W),
+        countedFrom flipped W (p % W),
+        countedFrom mirrored H (p / W),
         turned-below flipped W (p % W) c<,
         turned-below mirrored H (p / W) r<,
-        columns-place W H flipped mirrored diagonal (turned flipped W (p % W)) (turned mirrored H (p / W))
+        columns-place W H flipped mirrored diagonal (countedFrom flipped W (p % W)) (countedFrom mirrored H (p / W))
             ∙ rw (turned-twice flipped W (p % W) c<, turned-twice mirrored H (p / W) r<) (div-add-mod' p W),
       )
 
   columns-step :
       (index number : ℕ) (f : ℕ → ℕ) (back : Bool) (i x : ℕ) → i < W → x < H →
-      plateSpot f W H (placeIn columns i x / W + down index number back) (placeIn columns i x % W + across index number back)
-      ≡ spot f columns (i + turned flipped 3 (across index number back)) (x + turned mirrored 3 (down index number back))
+      plateSpot f W H (placeIn columns i x / W + rowsOn index number back) (placeIn columns i x % W + columnsOn index number back)
+      ≡ spot f columns (i + countedFrom flipped 3 (columnsOn index number back)) (x + countedFrom mirrored 3 (rowsOn index number back))
   columns-step index number f back i x h k =
       let l = columns-lies i x h k in
       let d = near-down index number back in
       let a = near-across index number back in
-      rw (l .is-row, l .is-column, turned-step mirrored H x (down index number back) k d, turned-step flipped W i (across index number back) h a)
-      (columns-spot W H flipped mirrored diagonal f (i + turned flipped 3 (across index number back)) (x + turned mirrored 3 (down index number back))
-      (omega (arith, near-turned flipped (across index number back) a)) (omega (arith, near-turned mirrored (down index number back) d)))
+      rw (l .is-row, l .is-column, turned-step mirrored H x (rowsOn index number back) k d, turned-step flipped W i (columnsOn index number back) h a)
+      (columns-spot W H flipped mirrored diagonal f (i + countedFrom flipped 3 (columnsOn index number back)) (x + countedFrom mirrored 3 (rowsOn index number back))
+      (omega (arith, near-turned flipped (columnsOn index number back) a)) (omega (arith, near-turned mirrored (rowsOn index number back) d)))
 
   pub columns-near :
       (index : ℕ) → index < 4 → (f : ℕ → ℕ) (back : Bool) (i x : ℕ) → i < W → x < H →
       best f (around back W H (2 ^ index) (placeIn columns i x))
-      ≡ three (λ n. spot f columns (i + turned flipped 3 (across index n back)) (x + turned mirrored 3 (down index n back)))
+      ≡ three (λ n. spot f columns (i + countedFrom flipped 3 (columnsOn index n back)) (x + countedFrom mirrored 3 (rowsOn index n back)))
   columns-near index known f back i x h k =
       best-around f W H index back (placeIn columns i x) known (columns-lies i x h k .on)
       ∙ rw (columns-step index 0 f back i x h k, columns-step index 1 f back i x h k, columns-step index 2 f back i x h k)
 
-  pub columns-rank : (bit i x : ℕ) → i < W → x < H → rank W H bit (placeIn columns i x) ≡ rankAt H bit (turned flipped W i) (turned mirrored H x)
+  pub columns-rank : (bit i x : ℕ) → i < W → x < H → rank W H bit (placeIn columns i x) ≡ rankAt H bit (countedFrom flipped W i) (countedFrom mirrored H x)
   columns-rank bit i x h k =
-      ranked-at W H bit (placeIn columns i x) (turned mirrored H x) (turned flipped W i) (columns-lies i x h k)
+      ranked-at W H bit (placeIn columns i x) (countedFrom mirrored H x) (countedFrom flipped W i) (columns-lies i x h k)

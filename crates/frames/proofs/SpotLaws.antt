@@ -8,32 +8,32 @@ use native.Mathlib.Omega.{arith}
 use borrow.Author.Tests.{le-leb, lt-leb}
 use Rattle.basics.proofs.Numbers.{le-or-lt}
 use Rattle.frames.proofs.PlateSpots.{plateSpot, gate-zero, spot-on, spot-above, spot-below, spot-left, spot-right}
-use Rattle.frames.specs.Frames.{turned, placeIn, spot}
+use Rattle.frames.specs.Frames.{countedFrom, placeIn, spot}
 use Rattle.frames.specs.declared.frame.Frame.{Frame}
 
 -- ---- numbers turned
 
-pub turned-last : (b : Bool) (n i : ℕ) → b ≡ true → turned b n i ≡ n - 1 - i
-unfolding turned
+pub turned-last : (b : Bool) (n i : ℕ) → b ≡ true → countedFrom b n i ≡ n - 1 - i
+unfolding countedFrom
 turned-last b n i e = rw e
 
-pub turned-first : (b : Bool) (n i : ℕ) → b ≡ false → turned b n i ≡ i
-unfolding turned
+pub turned-first : (b : Bool) (n i : ℕ) → b ≡ false → countedFrom b n i ≡ i
+unfolding countedFrom
 turned-first b n i e = rw e
 
-pub turned-below : (b : Bool) (n i : ℕ) → i < n → turned b n i < n
-unfolding turned
+pub turned-below : (b : Bool) (n i : ℕ) → i < n → countedFrom b n i < n
+unfolding countedFrom
 turned-below true n i h = omega arith
 turned-below false n i h = h
 
-pub turned-twice : (b : Bool) (n i : ℕ) → i < n → turned b n (turned b n i) ≡ i
-unfolding turned
+pub turned-twice : (b : Bool) (n i : ℕ) → i < n → countedFrom b n (countedFrom b n i) ≡ i
+unfolding countedFrom
 turned-twice true n i h = omega arith
 turned-twice false n i h = refl
 
 -- a change by d − 1, in coordinates plus one
-pub turned-step : (b : Bool) (n i d : ℕ) → i < n → d ≤ 2 → turned b n i + d ≡ turned b (n + 2) (i + turned b 3 d)
-unfolding turned
+pub turned-step : (b : Bool) (n i d : ℕ) → i < n → d ≤ 2 → countedFrom b n i + d ≡ countedFrom b (n + 2) (i + countedFrom b 3 d)
+unfolding countedFrom
 turned-step true n i d h k = omega arith
 turned-step false n i d h k = refl
 
@@ -47,18 +47,18 @@ Off n I = (I < 1) ⊎ (n < I)
 on-or-off : (n I : ℕ) → On n I ⊎ Off n I
 on-or-off n I = ⊎-elim (λ a. ⊎-elim (λ b. inl (a, b)) (λ b. inr (inr b)) (le-or-lt I n)) (λ a. inr (inl a)) (le-or-lt 1 I)
 
-turned-on : (b : Bool) (n I : ℕ) → On n I → On n (turned b (n + 2) I)
-unfolding turned
+turned-on : (b : Bool) (n I : ℕ) → On n I → On n (countedFrom b (n + 2) I)
+unfolding countedFrom
 turned-on true n I h = omega arith
 turned-on false n I h = h
 
-turned-off : (b : Bool) (n I : ℕ) → I ≤ n + 1 → Off n I → Off n (turned b (n + 2) I)
-unfolding turned
+turned-off : (b : Bool) (n I : ℕ) → I ≤ n + 1 → Off n I → Off n (countedFrom b (n + 2) I)
+unfolding countedFrom
 turned-off true n I l h = ⊎-elim (λ a. inr (omega arith)) (λ a. inl (omega arith)) h
 turned-off false n I l h = h
 
-turned-less : (b : Bool) (n I : ℕ) → On n I → turned b (n + 2) I - 1 ≡ turned b n (I - 1)
-unfolding turned
+turned-less : (b : Bool) (n I : ℕ) → On n I → countedFrom b (n + 2) I - 1 ≡ countedFrom b n (I - 1)
+unfolding countedFrom
 turned-less true n I h = omega arith
 turned-less false n I h = refl
 
@@ -91,20 +91,20 @@ module _ (W H : ℕ) (flipped mirrored diagonal : Bool) where
   abbrev pub columnsFrame : Frame
   columnsFrame = record { lines = W; across = H; leap = 1; hop = W; flipped = flipped; mirrored = mirrored; diagonal = diagonal }
 
-  pub rows-place : (i x : ℕ) → placeIn rowsFrame i x ≡ turned flipped H i * W + turned mirrored W x
+  pub rows-place : (i x : ℕ) → placeIn rowsFrame i x ≡ countedFrom flipped H i * W + countedFrom mirrored W x
   unfolding placeIn
   rows-place i x = omega arith
 
-  pub columns-place : (i x : ℕ) → placeIn columnsFrame i x ≡ turned mirrored H x * W + turned flipped W i
+  pub columns-place : (i x : ℕ) → placeIn columnsFrame i x ≡ countedFrom mirrored H x * W + countedFrom flipped W i
   unfolding placeIn
   columns-place i x = omega arith
 
   module _ (f : ℕ → ℕ) (I J : ℕ) where
     pub rows-spot :
-        I ≤ H + 1 → J ≤ W + 1 → plateSpot f W H (turned flipped (H + 2) I) (turned mirrored (W + 2) J) ≡ spot f rowsFrame I J
+        I ≤ H + 1 → J ≤ W + 1 → plateSpot f W H (countedFrom flipped (H + 2) I) (countedFrom mirrored (W + 2) J) ≡ spot f rowsFrame I J
     rows-spot p q =
-        let Y = turned flipped (H + 2) I in
-        let X = turned mirrored (W + 2) J in
+        let Y = countedFrom flipped (H + 2) I in
+        let X = countedFrom mirrored (W + 2) J in
         let off : Off H I ⊎ Off W J → plateSpot f W H Y X ≡ spot f rowsFrame I J =
         λ o.
         plate-off f W H Y X (⊎-elim (λ a. inl (turned-off flipped H I p a)) (λ a. inr (turned-off mirrored W J q a)) o)
@@ -119,10 +119,10 @@ module _ (W H : ℕ) (flipped mirrored diagonal : Bool) where
         ⊎-elim (λ a. ⊎-elim (λ b. on a b) (λ b. off (inr b)) (on-or-off W J)) (λ a. off (inl a)) (on-or-off H I)
 
     pub columns-spot :
-        I ≤ W + 1 → J ≤ H + 1 → plateSpot f W H (turned mirrored (H + 2) J) (turned flipped (W + 2) I) ≡ spot f columnsFrame I J
+        I ≤ W + 1 → J ≤ H + 1 → plateSpot f W H (countedFrom mirrored (H + 2) J) (countedFrom flipped (W + 2) I) ≡ spot f columnsFrame I J
     columns-spot p q =
-        let Y = turned mirrored (H + 2) J in
-        let X = turned flipped (W + 2) I in
+        let Y = countedFrom mirrored (H + 2) J in
+        let X = countedFrom flipped (W + 2) I in
         let off : Off W I ⊎ Off H J → plateSpot f W H Y X ≡ spot f columnsFrame I J =
         λ o.
         plate-off f W H Y X (⊎-elim (λ a. inr (turned-off flipped W I p a)) (λ a. inl (turned-off mirrored H J q a)) o)

@@ -9,16 +9,16 @@ use Rattle.frames.specs.Steps.{gate}
 use Rattle.frames.specs.declared.frame.Frame.{Frame}
 use Rattle.theory.specs.BestWalks.{best}
 use Rattle.theory.specs.Walks.{around}
-use Rattle.theory.specs.Ranks.{room}
+use Rattle.theory.specs.Ranks.{stepsLeft}
 
 -- a number below n as it stands, or counted from the last one
-unfoldable pub turned : Bool → ℕ → ℕ → ℕ
-turned true n i = n - 1 - i
-turned false n i = i
+unfoldable pub countedFrom : Bool → ℕ → ℕ → ℕ
+countedFrom true n i = n - 1 - i
+countedFrom false n i = i
 
 -- the place on the plate of pixel x of line i
 unfoldable pub placeIn : Frame → ℕ → ℕ → ℕ
-placeIn r i x = turned (r .flipped) (r .lines) i * r .leap + turned (r .mirrored) (r .across) x * r .hop
+placeIn r i x = countedFrom (r .flipped) (r .lines) i * r .leap + countedFrom (r .mirrored) (r .across) x * r .hop
 
 -- f at line Y − 1 and pixel X − 1, 0 where that is off the frame
 unfoldable pub spot : (ℕ → ℕ) → Frame → ℕ → ℕ → ℕ
@@ -54,7 +54,7 @@ pub record Framed (r : Frame) (W H index : ℕ) : Type 0 where
   pub whole : (p : ℕ) → p < W * H → (i : ℕ) × (x : ℕ) × (i < r .lines) × (x < r .across) × (placeIn r i x ≡ p)
   pub near : (f : ℕ → ℕ) (back : Bool) (i x : ℕ) → i < r .lines → x < r .across →
       best f (around back W H (2 ^ index) (placeIn r i x)) ≡ onward f r back i x
-  pub room-on : (i x : ℕ) → i < r .lines → x < r .across → room W H (2 ^ index) false (placeIn r i x) ≡ i + cond (r .diagonal) x 0
+  pub room-on : (i x : ℕ) → i < r .lines → x < r .across → stepsLeft W H (2 ^ index) false (placeIn r i x) ≡ i + cond (r .diagonal) x 0
   pub room-back : (i x : ℕ) → i < r .lines → x < r .across →
-      room W H (2 ^ index) true (placeIn r i x) ≡ r .lines - 1 - i + cond (r .diagonal) (r .across - 1 - x) 0
+      stepsLeft W H (2 ^ index) true (placeIn r i x) ≡ r .lines - 1 - i + cond (r .diagonal) (r .across - 1 - x) 0
   pub long : span W H (2 ^ index) ≡ r .lines + cond (r .diagonal) (r .across - 1) 0

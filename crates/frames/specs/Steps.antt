@@ -19,11 +19,11 @@ biased true d = 2 - plusOne d
 biased false d = plusOne d
 
 -- by how many columns, and rows, the numbered step goes, plus one
-unfoldable pub across : ℕ → ℕ → Bool → ℕ
-across index number back = biased back (stepAt index number .column)
+unfoldable pub columnsOn : ℕ → ℕ → Bool → ℕ
+columnsOn index number back = biased back (stepAt index number .column)
 
-unfoldable pub down : ℕ → ℕ → Bool → ℕ
-down index number back = biased back (stepAt index number .row)
+unfoldable pub rowsOn : ℕ → ℕ → Bool → ℕ
+rowsOn index number back = biased back (stepAt index number .row)
 
 -- a number, or 0 where a test fails
 abbrev pub gate : Bool → ℕ → ℕ

@@ -2,7 +2,7 @@
 // trace reads its steps here.
 ghost use mathlib.Core.Path.{_≡_};
 ghost use Prim.Native.Nat.{_≤_};
-ghost use Rattle.frames.specs.Steps.{biased, across, down};
+ghost use Rattle.frames.specs.Steps.{biased, columnsOn, rowsOn};
 
 // A change by -1, 0 or 1, or its negation, plus one.
 fn bias(d: i8, backwards: bool) -> usize
@@ -25,14 +25,14 @@ fn bias(d: i8, backwards: bool) -> usize
 
 // By how many columns the numbered step of the direction at this index goes, or backwards; plus one.
 pub fn columns_on(index: usize, number: usize, backwards: bool) -> usize
-    ensures { λ r. ⌜ (r ≡ across index number backwards) × (r ≤ 2) ⌝ }
+    ensures { λ r. ⌜ (r ≡ columnsOn index number backwards) × (r ≤ 2) ⌝ }
 {
     bias(plate::column_change(index, number), backwards)
 }
 
 // By how many rows.
 pub fn rows_on(index: usize, number: usize, backwards: bool) -> usize
-    ensures { λ r. ⌜ (r ≡ down index number backwards) × (r ≤ 2) ⌝ }
+    ensures { λ r. ⌜ (r ≡ rowsOn index number backwards) × (r ≤ 2) ⌝ }
 {
     bias(plate::row_change(index, number), backwards)
 }

@@ -51,7 +51,14 @@ pub(crate) fn load_row(held: &mut [u16], slot: usize, work: &[u16], at: usize, p
 }
 
 // The held row comes to `at`, where a row of a state begins.
-pub(crate) fn store_row(work: &mut [u16], at: usize, held: &[u16], slot: usize, plan: Plan, row: Row)
+pub(crate) fn store_row(
+    work: &mut [u16],
+    at: usize,
+    held: &[u16],
+    slot: usize,
+    plan: Plan,
+    row: Row,
+)
     requires { ⌜ (RowOf plan row) × (SlotOf plan slot (length (now held))) × (at + rowSize plan ≤ length (now work)) ⌝ }
     ensures { λ _. ⌜ ((f : ℕ → ℕ → ℕ) → RowHeld (now (held .entry)) slot (plan .planes) (pitchOf plan) (row .lo) (row .hi) f → RowStored (now (work .exit)) at (plan .planes) (plan .across) (row .lo) (row .hi) f) ⌝ }
     ensures { λ _. ⌜ Apart (now (work .entry)) (now (work .exit)) at (at + rowSize plan) ⌝ }

@@ -1,5 +1,5 @@
 -- The decomposition that the engine computes is the opening of the definitions: formula (4) of source 001, taken on levels instead of on
--- thresholds, and over all l and j. Its formula (2) lets every start of a path count with no gap; that slip is mended by `reach`, whose recursion
+-- thresholds, and over all l and j. Its formula (2) lets every start of a path count with no gap; that slip is mended by `bestWalk`, whose recursion
 -- (3) holds with no gap left too. A path counts at a level just when its walk counts at the level's key, and a walk through x is split there.
 use Prim.Native.Nat.{ℕ, suc, _-_, _*_, _≤_, _<_, min}
 use mathlib.Core.Path.{_≡_, refl}
@@ -14,7 +14,7 @@ use Rattle.plate.specs.Paths.{next}
 use Rattle.plate.specs.Opening.{levelAt, below, admits, openedAt}
 use Rattle.plate.specs.declared.setting.Setting.{Setting}
 use Rattle.theory.specs.Walks.{back}
-use Rattle.theory.specs.BestWalks.{best, upto, under, lowPixels, reach, across, in-direction, value, keyAt}
+use Rattle.theory.specs.BestWalks.{best, upto, under, lowPixels, bestWalk, bestThrough, in-direction, value, keyAt}
 use Rattle.plate.proofs.Keys.{ltZ-key, key-bound}
 use Rattle.theory.proofs.Listed.{listed-walk, walk-listed, walk-started, paths-find, paths-keep}
 use Rattle.theory.proofs.Reversal.{turn, turn-back}
@@ -26,13 +26,13 @@ use Rattle.theory.proofs.Splitting.{Crossing, Halves, split, unsplit}
 -- ---- one direction
 
 module _ {next back : ℕ → List ℕ} {g : ℕ → ℕ} where
-  pub across-keep : {t m k x : ℕ} → Halves next back g t m k x → t ≤ across next back g m k x
-  unfolding across
+  pub across-keep : {t m k x : ℕ} → Halves next back g t m k x → t ≤ bestThrough next back g m k x
+  unfolding bestThrough
   across-keep {t} {m} {k} h =
       upto-keep _ t m (h .l) (h .l≤m) (upto-keep _ t k (h .i) (h .i≤k) (omega (arith, h .to-x, h .from-x)))
 
-  pub across-find : (t m k x : ℕ) → t ≤ across next back g m k x → Halves next back g t m k x
-  unfolding across
+  pub across-find : (t m k x : ℕ) → t ≤ bestThrough next back g m k x → Halves next back g t m k x
+  unfolding bestThrough
   across-find t m k x h =
       let a = upto-find _ t m h in
       let b = upto-find _ t k (a .2) in
@@ -42,7 +42,7 @@ module _ {next back : ℕ → List ℕ} {g : ℕ → ℕ} where
 
 module _ (f : List ℤ) (sized : (p : ℕ) → mag (levelAt f p) < 32768) where
   -- From `admits` to the count of low pixels: a path is admitted at a level where at most k of its pixels have a lower key. Only here does the
-  -- decomposition look at the rule of `admits` and open `below`, so that request N5, which changes the rule, is met here and in `reach`.
+  -- decomposition look at the rule of `admits` and open `below`, so that request N5, which changes the rule, is met here and in `bestWalk`.
   pub below-keys : (t : ℕ) (ps : List ℕ) → below f (level t) ps ≡ lowPixels (keyAt f) t ps
   unfolding below lowPixels under
   below-keys t [] = refl

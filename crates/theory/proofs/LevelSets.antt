@@ -1,5 +1,5 @@
 -- Walks by level sets: the recursion that the engine computes, formula (3) of source 001 taken on keys, finds just the walks that are there.
--- 'Some walk counts at t' is one number a pixel, `reach`, since a walk that counts at a key counts at every lower one; 0 also stands for 'no walk'.
+-- 'Some walk counts at t' is one number a pixel, `bestWalk`, since a walk that counts at a key counts at every lower one; 0 also stands for 'no walk'.
 -- Over any function `next`, forwards or backwards, and any keys of 16 bits. At the end stands what a program that computes it uses.
 use Prim.Native.Nat.{ℕ, zero, suc, _+_, _≤_, _<_, min, max}
 use mathlib.Core.Path.{_≡_, refl}
@@ -10,7 +10,7 @@ use native.Mathlib.Omega.{arith}
 use lib.Dec.{ltb}
 use borrow.Author.Tests.{lt-ltb, le-ltb}
 use Rattle.theory.specs.Walks.{Walk, Walk.stop, Walk.go}
-use Rattle.theory.specs.BestWalks.{best, under, lowPixels, fewer, alone, reach}
+use Rattle.theory.specs.BestWalks.{best, under, lowPixels, fewer, alone, bestWalk}
 use Rattle.basics.proofs.Numbers.{le-or-lt, le-max-split, known-below}
 use Rattle.theory.proofs.Maxima.{best-find, best-keep, best-least, best-mono, best-same}
 
@@ -61,95 +61,95 @@ module _ (next : ℕ → List ℕ) (g : ℕ → ℕ) (t : ℕ) where
   unfolding lowPixels
   before-any {p = p} s e w = record { pixels = p ∷ w .pixels; walk = go e (w .walk); few = omega (arith, under-le-one t (g p)) }
 
-  pub reach-good : 1 ≤ t → (m j p : ℕ) → t ≤ reach next g m j p → Good next g t m j p
-  unfolding reach lowPixels alone
+  pub reach-good : 1 ≤ t → (m j p : ℕ) → t ≤ bestWalk next g m j p → Good next g t m j p
+  unfolding bestWalk lowPixels alone
   reach-good positive zero zero p h = record { pixels = p ∷ []; walk = stop; few = omega (arith, under-high t (g p) h) }
   reach-good positive zero (suc j) p h = record { pixels = p ∷ []; walk = stop; few = omega (arith, under-le-one t (g p)) }
   reach-good positive (suc m) j p h =
       ⊎-elim
-      (λ a. let r = best-find (reach next g m j) t (next p) positive (omega arith) in
+      (λ a. let r = best-find (bestWalk next g m j) t (next p) positive (omega arith) in
       before-high (omega arith) (r .1) (reach-good positive m j (r .0) (r .2)))
-      (λ b. let s = fewer-find (λ i. best (reach next g m i) (next p)) t j positive b in
-      let r = best-find (reach next g m (s .0)) t (next p) positive (s .2) in
+      (λ b. let s = fewer-find (λ i. best (bestWalk next g m i) (next p)) t j positive b in
+      let r = best-find (bestWalk next g m (s .0)) t (next p) positive (s .2) in
       before-any (s .1) (r .1) (reach-good positive m (s .0) (r .0) (r .2)))
       (le-max-split t _ _ h)
 
-  walk-reach : t ≤ 65535 → {m p : ℕ} {ps : List ℕ} → Walk next m p ps → (j : ℕ) → lowPixels g t ps ≤ j → t ≤ reach next g m j p
-  unfolding reach lowPixels alone fewer
+  walk-reach : t ≤ 65535 → {m p : ℕ} {ps : List ℕ} → Walk next m p ps → (j : ℕ) → lowPixels g t ps ≤ j → t ≤ bestWalk next g m j p
+  unfolding bestWalk lowPixels alone fewer
   walk-reach small (stop {p}) zero h =
       ⊎-elim (λ a. a) (λ b. absurd (omega (arith, under-low t (g p) b))) (le-or-lt t (g p))
   walk-reach small stop (suc j) h = small
   walk-reach small (go {m} {p} {q} {ps} e w) zero h =
       ⊎-elim
-      (λ a. omega (arith, best-keep (reach next g m zero) t q e (walk-reach small w zero (omega (arith, under-high t (g p) a)))))
+      (λ a. omega (arith, best-keep (bestWalk next g m zero) t q e (walk-reach small w zero (omega (arith, under-high t (g p) a)))))
       (λ b. absurd (omega (arith, under-low t (g p) b)))
       (le-or-lt t (g p))
   walk-reach small (go {m} {p} {q} {ps} e w) (suc j) h =
       ⊎-elim
-      (λ a. omega (arith, best-keep (reach next g m (suc j)) t q e (walk-reach small w (suc j) (omega (arith, under-high t (g p) a)))))
-      (λ b. omega (arith, best-keep (reach next g m j) t q e (walk-reach small w j (omega (arith, under-low t (g p) b)))))
+      (λ a. omega (arith, best-keep (bestWalk next g m (suc j)) t q e (walk-reach small w (suc j) (omega (arith, under-high t (g p) a)))))
+      (λ b. omega (arith, best-keep (bestWalk next g m j) t q e (walk-reach small w j (omega (arith, under-low t (g p) b)))))
       (le-or-lt t (g p))
 
-  pub good-reach : t ≤ 65535 → (m j p : ℕ) → Good next g t m j p → t ≤ reach next g m j p
+  pub good-reach : t ≤ 65535 → (m j p : ℕ) → Good next g t m j p → t ≤ bestWalk next g m j p
   good-reach small m j p w = walk-reach small (w .walk) j (w .few)
 
 -- ---- for a program that computes it: the recursion step by step, and what need not be visited
 
 module _ (next : ℕ → List ℕ) (g : ℕ → ℕ) where
-  pub reach-start : (p : ℕ) → reach next g 0 0 p ≡ g p
-  unfolding reach alone
+  pub reach-start : (p : ℕ) → bestWalk next g 0 0 p ≡ g p
+  unfolding bestWalk alone
   reach-start p = refl
 
-  pub reach-start-gap : (j p : ℕ) → reach next g 0 (suc j) p ≡ 65535
-  unfolding reach alone
+  pub reach-start-gap : (j p : ℕ) → bestWalk next g 0 (suc j) p ≡ 65535
+  unfolding bestWalk alone
   reach-start-gap j p = refl
 
   pub reach-step : (m j p : ℕ) →
-      reach next g (suc m) j p ≡ max (min (g p) (best (reach next g m j) (next p))) (fewer (λ i. best (reach next g m i) (next p)) j)
-  unfolding reach
+      bestWalk next g (suc m) j p ≡ max (min (g p) (best (bestWalk next g m j) (next p))) (fewer (λ i. best (bestWalk next g m i) (next p)) j)
+  unfolding bestWalk
   reach-step m j p = refl
 
   -- where no walk of m steps starts it is 0, whatever the gaps
-  pub reach-none : (m j p : ℕ) → ((ps : List ℕ) → Walk next m p ps → ⊥) → reach next g m j p ≡ 0
-  reach-none m j p none = known-below (reach next g m j p) 0
+  pub reach-none : (m j p : ℕ) → ((ps : List ℕ) → Walk next m p ps → ⊥) → bestWalk next g m j p ≡ 0
+  reach-none m j p none = known-below (bestWalk next g m j p) 0
       (λ t positive h. let w = reach-good next g t positive m j p h in absurd (none (w .pixels) (w .walk)))
       (λ t positive h. omega arith)
 
   module _ (bounded : (p : ℕ) → g p ≤ 65535) where
-    pub reach-bound : (m j p : ℕ) → reach next g m j p ≤ 65535
-    unfolding reach alone fewer
+    pub reach-bound : (m j p : ℕ) → bestWalk next g m j p ≤ 65535
+    unfolding bestWalk alone fewer
     reach-bound zero zero p = bounded p
     reach-bound zero (suc j) p = omega arith
     reach-bound (suc m) zero p = omega (arith, bounded p)
     reach-bound (suc m) (suc j) p =
-        omega (arith, bounded p, best-least (reach next g m j) 65535 (next p) (λ q i. reach-bound m j q))
+        omega (arith, bounded p, best-least (bestWalk next g m j) 65535 (next p) (λ q i. reach-bound m j q))
 
     -- one more gap never lowers it
-    pub reach-more-gaps : (m j p : ℕ) → reach next g m j p ≤ reach next g m (suc j) p
-    unfolding reach alone fewer
+    pub reach-more-gaps : (m j p : ℕ) → bestWalk next g m j p ≤ bestWalk next g m (suc j) p
+    unfolding bestWalk alone fewer
     reach-more-gaps zero zero p = bounded p
     reach-more-gaps zero (suc j) p = omega arith
-    reach-more-gaps (suc m) zero p = omega (arith, best-mono (reach next g m 0) (reach next g m 1) (reach-more-gaps m 0) (next p))
+    reach-more-gaps (suc m) zero p = omega (arith, best-mono (bestWalk next g m 0) (bestWalk next g m 1) (reach-more-gaps m 0) (next p))
     reach-more-gaps (suc m) (suc j) p =
         omega (
           arith,
-          best-mono (reach next g m j) (reach next g m (suc j)) (reach-more-gaps m j) (next p),
-          best-mono (reach next g m (suc j)) (reach next g m (suc (suc j))) (reach-more-gaps m (suc j)) (next p),
+          best-mono (bestWalk next g m j) (bestWalk next g m (suc j)) (reach-more-gaps m j) (next p),
+          best-mono (bestWalk next g m (suc j)) (bestWalk next g m (suc (suc j))) (reach-more-gaps m (suc j)) (next p),
         )
 
 -- reach is known by the keys of the places below n, where no step leads elsewhere
 module _ (next : ℕ → List ℕ) (g h : ℕ → ℕ) (n : ℕ)
     (stays : (p q : ℕ) → List·Memᴰ q (next p) → q < n) (same : (p : ℕ) → p < n → g p ≡ h p) where
-  pub reach-same : (m j p : ℕ) → p < n → reach next g m j p ≡ reach next h m j p
-  unfolding reach alone fewer
+  pub reach-same : (m j p : ℕ) → p < n → bestWalk next g m j p ≡ bestWalk next h m j p
+  unfolding bestWalk alone fewer
   reach-same zero zero p l = same p l
   reach-same zero (suc j) p l = refl
   reach-same (suc m) zero p l =
-      omega (arith, same p l, best-same (reach next g m 0) (reach next h m 0) (next p) (λ q i. reach-same m 0 q (stays p q i)))
+      omega (arith, same p l, best-same (bestWalk next g m 0) (bestWalk next h m 0) (next p) (λ q i. reach-same m 0 q (stays p q i)))
   reach-same (suc m) (suc j) p l =
       omega (
         arith,
         same p l,
-        best-same (reach next g m j) (reach next h m j) (next p) (λ q i. reach-same m j q (stays p q i)),
-        best-same (reach next g m (suc j)) (reach next h m (suc j)) (next p) (λ q i. reach-same m (suc j) q (stays p q i)),
+        best-same (bestWalk next g m j) (bestWalk next h m j) (next p) (λ q i. reach-same m j q (stays p q i)),
+        best-same (bestWalk next g m (suc j)) (bestWalk next h m (suc j)) (next p) (λ q i. reach-same m (suc j) q (stays p q i)),
       )

@@ -1,5 +1,5 @@
--- Walking on and walking back, as one. A side has the places that a step leads to, how many steps its longest walk from a pixel has (`room`), and how
--- many the longest walk of the other side has (`other`). Whatever is shown of a side holds of both.
+-- Walking on and walking back, as one. A side has the places that a step leads to, how many steps its longest walk from a pixel has (`stepsLeft`), and how
+-- many the longest walk of the other side has (`stepsBehind`). Whatever is shown of a side holds of both.
 use Prim.Native.Nat.{ℕ, zero, suc, _+_, _-_, _*_, _≤_, _<_}
 use mathlib.Core.Path.{_≡_}
 use mathlib.Core.Bool.{Bool, true, false}
@@ -7,7 +7,7 @@ use mathlib.Core.List.{List, [], _∷_, List·Memᴰ}
 use native.Mathlib.Omega.{arith}
 use Rattle.plate.specs.Paths.{next, span}
 use Rattle.theory.specs.Walks.{Walk, Walk.stop, WalkFrom, back, around}
-use Rattle.theory.specs.Ranks.{rank, room, other}
+use Rattle.theory.specs.Ranks.{rank, stepsLeft, stepsBehind}
 use Rattle.theory.proofs.Walks.{step-first}
 use Rattle.theory.proofs.Steps.{next-on}
 use Rattle.theory.proofs.Reversal.{turn-back}
@@ -16,14 +16,14 @@ use Rattle.theory.proofs.Span.{walk-fits, back-fits}
 
 pub record Side (W H bit : ℕ) (side : Bool) : Type 0 where
   -- a walk has no more steps than its first pixel has room
-  pub fits : {m p : ℕ} {ps : List ℕ} → p < W * H → Walk (around side W H bit) m p ps → m ≤ room W H bit side p
+  pub fits : {m p : ℕ} {ps : List ℕ} → p < W * H → Walk (around side W H bit) m p ps → m ≤ stepsLeft W H bit side p
   -- where there is room, some step takes just one of it
-  pub onward : (p : ℕ) → p < W * H → 0 < room W H bit side p → (q : ℕ) × List·Memᴰ q (around side W H bit p) × (room W H bit side p ≡ room W H bit side q + 1)
+  pub onward : (p : ℕ) → p < W * H → 0 < stepsLeft W H bit side p → (q : ℕ) × List·Memᴰ q (around side W H bit p) × (stepsLeft W H bit side p ≡ stepsLeft W H bit side q + 1)
   -- every step leaves more room on the other side
-  pub rises : (p q : ℕ) → List·Memᴰ q (around side W H bit p) → other W H bit side p < other W H bit side q
+  pub rises : (p q : ℕ) → List·Memᴰ q (around side W H bit p) → stepsBehind W H bit side p < stepsBehind W H bit side q
   pub stays : (p q : ℕ) → List·Memᴰ q (around side W H bit p) → (p < W * H) × (q < W * H)
   -- the two rooms and the pixel itself make up the span
-  pub total : (p : ℕ) → p < W * H → room W H bit side p + other W H bit side p + 1 ≡ span W H bit
+  pub total : (p : ℕ) → p < W * H → stepsLeft W H bit side p + stepsBehind W H bit side p + 1 ≡ span W H bit
 
 module _ (W H bit : ℕ) (R : Ranked W H bit) where
   forwards : Side W H bit false
@@ -58,12 +58,12 @@ side W H bit i true = backwards W H bit (ranked W H bit i)
 side W H bit i false = forwards W H bit (ranked W H bit i)
 
 -- every step takes room away
-pub room-falls : {W H bit : ℕ} {b : Bool} → Side W H bit b → (p q : ℕ) → List·Memᴰ q (around b W H bit p) → room W H bit b q < room W H bit b p
+pub room-falls : {W H bit : ℕ} {b : Bool} → Side W H bit b → (p q : ℕ) → List·Memᴰ q (around b W H bit p) → stepsLeft W H bit b q < stepsLeft W H bit b p
 room-falls {W} {H} {bit} {b} S p q i =
     let on = S .stays p q i in omega (arith, S .rises p q i, S .total p (on .0), S .total q (on .1))
 
 -- a walk of m steps starts at p exactly when p has room for it: here that it then does
-pub side-walk : {W H bit : ℕ} {b : Bool} → Side W H bit b → (m p : ℕ) → p < W * H → m ≤ room W H bit b p → WalkFrom (around b W H bit) m p
+pub side-walk : {W H bit : ℕ} {b : Bool} → Side W H bit b → (m p : ℕ) → p < W * H → m ≤ stepsLeft W H bit b p → WalkFrom (around b W H bit) m p
 side-walk S zero p h l = record { pixels = p ∷ []; walk = stop }
 side-walk S (suc m) p h l =
     let r = S .onward p h (omega arith) in

@@ -5,7 +5,7 @@ use mathlib.Core.Path.{_≡_, ap, _∙_}
 use mathlib.Core.List.{List, [], _∷_, tail, reverseAux, List·Memᴰ}
 use native.Mathlib.Omega.{arith}
 use Rattle.theory.specs.Walks.{Walk}
-use Rattle.theory.specs.BestWalks.{under, lowPixels, reach}
+use Rattle.theory.specs.BestWalks.{under, lowPixels, bestWalk}
 use Rattle.basics.proofs.Lists.{reverseAux-right}
 use Rattle.theory.proofs.Walks.{walk-first, walk-starts}
 use Rattle.theory.proofs.Cutting.{Cut, cut, join}
@@ -25,8 +25,8 @@ pub record Halves (next back : ℕ → List ℕ) (g : ℕ → ℕ) (t m k x : �
   pub i : ℕ
   pub l≤m : l ≤ m
   pub i≤k : i ≤ k
-  pub to-x : t ≤ reach back g l i x
-  pub from-x : t ≤ reach next g (m - l) (k - i) x
+  pub to-x : t ≤ bestWalk back g l i x
+  pub from-x : t ≤ bestWalk next g (m - l) (k - i) x
 
 module _ (g : ℕ → ℕ) (t : ℕ) where
   low-reverseAux : (ps qs : List ℕ) → lowPixels g t (reverseAux ps qs) ≡ lowPixels g t ps + lowPixels g t qs

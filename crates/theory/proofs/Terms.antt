@@ -8,7 +8,7 @@ use native.Mathlib.Omega.{arith}
 use Rattle.basics.proofs.Numbers.{le-or-lt, known-below}
 use Rattle.plate.specs.Paths.{next}
 use Rattle.theory.specs.Walks.{Walk, back}
-use Rattle.theory.specs.BestWalks.{joinedAt, across, in-direction, value, term}
+use Rattle.theory.specs.BestWalks.{joinedAt, bestThrough, in-direction, value, term}
 use Rattle.theory.proofs.Steps.{next-on}
 use Rattle.theory.proofs.Reversal.{turn-back, back-on}
 use Rattle.theory.proofs.Maxima.{best-keep, best-least, upto-keep, upto-least}
@@ -20,12 +20,12 @@ use Rattle.theory.proofs.Decomposition.{across-find}
 
 module _ (W H bit m k : ℕ) (g : ℕ → ℕ) (x : ℕ) where
   pub across-term : (l i : ℕ) → l ≤ m → i ≤ k → term W H bit m k g x l i ≤ in-direction W H bit m k g x
-  unfolding across
+  unfolding bestThrough
   across-term l i hl hi =
       upto-keep _ (term W H bit m k g x l i) m l hl (upto-keep (term W H bit m k g x l) (term W H bit m k g x l i) k i hi (omega arith))
 
   pub across-least : (b : ℕ) → ((l i : ℕ) → l ≤ m → i ≤ k → term W H bit m k g x l i ≤ b) → in-direction W H bit m k g x ≤ b
-  unfolding across
+  unfolding bestThrough
   across-least b h = upto-least _ b m (λ l hl. upto-least (term W H bit m k g x l) b k (λ i hi. h l i hl hi))
 
   -- where no walk of m steps crosses x

@@ -1,6 +1,6 @@
 -- The best walks from one pixel x, by a recursion that looks back from where they end: the number of a pixel q tells the best walk of m steps from
 -- x to q. A walk back from q to x, turned round, is one from x, and each walk from x is found at its last pixel; so the best of these numbers is what
--- `reach` tells at x.
+-- `bestWalk` tells at x.
 use Prim.Native.Nat.{ℕ, _*_, _≤_, _<_}
 use mathlib.Core.Path.{_≡_, refl, subst}
 use mathlib.Core.Bool.{Bool, true, false}
@@ -10,7 +10,7 @@ use native.Mathlib.Omega.{arith}
 use lib.Dec.{eqb}
 use borrow.Author.Tests.{eqb-true, eq-eqb}
 use Rattle.theory.specs.Walks.{around, opposite}
-use Rattle.theory.specs.BestWalks.{reach, reachFrom}
+use Rattle.theory.specs.BestWalks.{bestWalk, bestWalkTo}
 use Rattle.basics.proofs.Numbers.{le-or-lt, known-below}
 use Rattle.theory.proofs.Steps.{next-on}
 use Rattle.theory.proofs.Reversal.{turn, turn-back, back-on}
@@ -19,7 +19,7 @@ use Rattle.theory.proofs.Ends.{from-bound, from-turned, turned-from}
 
 -- the highest key at which a walk of m steps from x to q has at most j pixels below it
 abbrev pub towards : Bool → ℕ → ℕ → ℕ → (ℕ → ℕ) → ℕ → ℕ → ℕ → ℕ → ℕ
-towards b W H bit g x m j q = reachFrom (around (opposite b) W H bit) g (λ p. eqb p x) m j q
+towards b W H bit g x m j q = bestWalkTo (around (opposite b) W H bit) g (λ p. eqb p x) m j q
 
 -- ---- a step of one side is a step of the other, turned round, and stays on the plate
 
@@ -41,21 +41,21 @@ around-on false W H bit p q i = next-on W H bit p q i
 -- ---- the numbers of all pixels against the one of x
 
 module _ (b : Bool) (W H bit : ℕ) (g : ℕ → ℕ) (bounded : (p : ℕ) → g p ≤ 65535) (x m j : ℕ) where
-  towards-known : (t q : ℕ) → 1 ≤ t → t ≤ towards b W H bit g x m j q → t ≤ reach (around b W H bit) g m j x
+  towards-known : (t q : ℕ) → 1 ≤ t → t ≤ towards b W H bit g x m j q → t ≤ bestWalk (around b W H bit) g m j x
   towards-known t q positive h =
       let small : t ≤ 65535 = omega (arith, from-bound (around (opposite b) W H bit) g (λ p. eqb p x) bounded m j q) in
       let r = from-turned (around b W H bit) (around (opposite b) W H bit) g bounded (λ p. eqb p x) t (turn-opposite b W H bit) positive m j q h in
-      subst (λ (z : ℕ). t ≤ reach (around b W H bit) g m j z) (eqb-true (r .0) x (r .1))
+      subst (λ (z : ℕ). t ≤ bestWalk (around b W H bit) g m j z) (eqb-true (r .0) x (r .1))
       (good-reach (around b W H bit) g t small m j (r .0) (r .2))
 
   -- no pixel tells more than x
-  pub towards-below : (q : ℕ) → towards b W H bit g x m j q ≤ reach (around b W H bit) g m j x
+  pub towards-below : (q : ℕ) → towards b W H bit g x m j q ≤ bestWalk (around b W H bit) g m j x
   towards-below q = ⊎-elim (λ l. towards-known (towards b W H bit g x m j q) q l (omega arith)) (λ l. omega arith)
       (le-or-lt 1 (towards b W H bit g x m j q))
 
   -- and what x tells some pixel does, the last of the walk
   pub towards-find :
-      x < W * H → (t : ℕ) → 1 ≤ t → t ≤ reach (around b W H bit) g m j x → (q : ℕ) × (q < W * H) × (t ≤ towards b W H bit g x m j q)
+      x < W * H → (t : ℕ) → 1 ≤ t → t ≤ bestWalk (around b W H bit) g m j x → (q : ℕ) × (q < W * H) × (t ≤ towards b W H bit g x m j q)
   towards-find on t positive h =
       let small : t ≤ 65535 = omega (arith, reach-bound (around b W H bit) g bounded m j x) in
       turned-from (around b W H bit) (around (opposite b) W H bit) g bounded (λ p. eqb p x) t (turn-around b W H bit)
@@ -65,7 +65,7 @@ module _ (b : Bool) (W H bit : ℕ) (g : ℕ → ℕ) (bounded : (p : ℕ) → g
   -- so the greatest of them is the one of x
   pub towards-best :
       x < W * H → (n : ℕ) → ((q : ℕ) → q < W * H → towards b W H bit g x m j q ≤ n) →
-      (n ≡ 0) ⊎ ((q : ℕ) × (n ≡ towards b W H bit g x m j q)) → n ≡ reach (around b W H bit) g m j x
-  towards-best on n upper least = known-below n (reach (around b W H bit) g m j x)
+      (n ≡ 0) ⊎ ((q : ℕ) × (n ≡ towards b W H bit g x m j q)) → n ≡ bestWalk (around b W H bit) g m j x
+  towards-best on n upper least = known-below n (bestWalk (around b W H bit) g m j x)
       (λ t positive h. ⊎-elim (λ e. absurd (omega arith)) (λ s. omega (arith, s .1, towards-below (s .0))) least)
       (λ t positive h. let r = towards-find on t positive h in omega (arith, r .2, upper (r .0) (r .1)))

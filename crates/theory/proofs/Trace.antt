@@ -20,7 +20,7 @@ use Rattle.plate.specs.declared.setting.Setting.{Setting}
 use Rattle.plate.proofs.Keys.{mirror-ltZ}
 use Rattle.plate.proofs.Verdicts.{clear-accepted, accepted-clear}
 use Rattle.theory.specs.Trace.{short, better, Shows}
-use Rattle.theory.specs.Modes.{Levels, turned}
+use Rattle.theory.specs.Modes.{Levels, asMode}
 use Rattle.theory.proofs.Listed.{through-mem, listed-on, paths-keep}
 use Rattle.theory.proofs.Admission.{admitted-few, few-admitted}
 use Rattle.theory.proofs.Mirror.{turned-size, as-mode, levelAt-turned, filtered-length, filtered-levels, filtered-highest, filtered-idempotent}
@@ -28,11 +28,11 @@ use Rattle.theory.proofs.Mirror.{turned-size, as-mode, levelAt-turned, 
 -- ---- counts and orders by the mode are those of the turned plate
 
 module _ (s : Setting) where
-  better-turned : (v t : ℤ) → better s v t ≡ ltZ (turned s t) (turned s v)
+  better-turned : (v t : ℤ) → better s v t ≡ ltZ (asMode s t) (asMode s v)
   unfolding better
   better-turned v t = as-mode s (λ e q. rw (e, q)) (λ e q. rw (e, q) (sym (mirror-ltZ t v)))
 
-  short-turned : (f : List ℤ) (t : ℤ) (path : List ℕ) → ((p : ℕ) → List·Memᴰ p path → p < length f) → short s f t path ≡ below (map (turned s) f) (turned s t) path
+  short-turned : (f : List ℤ) (t : ℤ) (path : List ℕ) → ((p : ℕ) → List·Memᴰ p path → p < length f) → short s f t path ≡ below (map (asMode s) f) (asMode s t) path
   unfolding short below
   short-turned f t [] on = refl
   short-turned f t (p ∷ path) on =
@@ -69,10 +69,10 @@ module _ (s : Setting) (W H : ℕ) (f : List ℤ) (x room work : ℕ) (level : �
   -- ---- demand 3
 
   module _ (l : Levels f) where
-    own-small : (v : ℤ) → mag v < 32768 → mag (turned s v) < 32768
+    own-small : (v : ℤ) → mag v < 32768 → mag (asMode s v) < 32768
     own-small v h = rw (turned-size s v) h
 
-    level-small : mag (turned s level) < 32768
+    level-small : mag (asMode s level) < 32768
     level-small = own-small level (rw traced-level at (filtered-levels s W H f l .size x))
 
     -- a better level, up to the pixel's own, at which another path counts, would be the filtered level or a worse one
@@ -82,19 +82,19 @@ module _ (s : Setting) (W H : ℕ) (f : List ℤ) (x room work : ℕ) (level : �
     nothing-better t higher own way chosen-way other is-path crosses few =
         let listed : List·Memᴰ other (paths W H (s .directions) (s .length)) = paths-keep W H (s .directions) (s .length) chosen-way is-path in
         let on : (p : ℕ) → List·Memᴰ p other → p < length f = λ p i. omega (arith, listed-on W H (s .directions) (s .length) other listed p i, traced-exact) in
-        let within : turned s t ≤ℤ turned s (levelAt f x) = ltZ-no (not-T (ltZ (turned s (levelAt f x)) (turned s t)) (λ u. own (rw (better-turned s t (levelAt f x)) u))) in
-        let above : turned s level <ℤ turned s t = ltZ-yes (rw (← better-turned s t level) higher) in
-        let counts : T (admits s (map (turned s) f) (turned s t) other) = few-admitted s (map (turned s) f) (turned s t) other (omega (arith, short-turned s f t other on)) in
-        let small : mag (turned s t) < 32768 = mag-between (lt-le above) within level-small (own-small (levelAt f x) (l .size x)) in
+        let within : asMode s t ≤ℤ asMode s (levelAt f x) = ltZ-no (not-T (ltZ (asMode s (levelAt f x)) (asMode s t)) (λ u. own (rw (better-turned s t (levelAt f x)) u))) in
+        let above : asMode s level <ℤ asMode s t = ltZ-yes (rw (← better-turned s t level) higher) in
+        let counts : T (admits s (map (asMode s) f) (asMode s t) other) = few-admitted s (map (asMode s) f) (asMode s t) other (omega (arith, short-turned s f t other on)) in
+        let small : mag (asMode s t) < 32768 = mag-between (lt-le above) within level-small (own-small (levelAt f x) (l .size x)) in
         clashℤ above
         (rw traced-level at
-        (filtered-highest s W H f traced-exact l x traced-on (turned s t) small within
+        (filtered-highest s W H f traced-exact l x traced-on (asMode s t) small within
         (record { path = other; listed = listed; crosses = through-mem x other crosses; admitted = counts })))
 
     -- what the engine has to show is enough
     pub shows :
         (direction : ℕ) (path : List ℕ) → List·Memᴰ direction (chosen (s .directions)) → List·Memᴰ path (pathsIn W H (s .length) direction) → T (through x path) →
-        T (admits s (map (turned s) f) (turned s level) path) → Shows s W H f x direction level path
+        T (admits s (map (asMode s) f) (asMode s level) path) → Shows s W H f x direction level path
     shows direction path chosen-way is-path crosses counts =
         let listed : List·Memᴰ path (paths W H (s .directions) (s .length)) = paths-keep W H (s .directions) (s .length) chosen-way is-path in
         let on : (p : ℕ) → List·Memᴰ p path → p < length f = λ p i. omega (arith, listed-on W H (s .directions) (s .length) path listed p i, traced-exact) in
@@ -102,7 +102,7 @@ module _ (s : Setting) (W H : ℕ) (f : List ℤ) (x room work : ℕ) (level : �
           is-path = is-path;
           is-chosen = chosen-way;
           crosses = crosses;
-          few = omega (arith, short-turned s f level path on, admitted-few s (map (turned s) f) (turned s level) path counts);
+          few = omega (arith, short-turned s f level path on, admitted-few s (map (asMode s) f) (asMode s level) path counts);
           best = nothing-better;
           is-filtered = sym traced-level;
           again = traced-again l;

@@ -57,29 +57,29 @@ alone a zero = a
 alone a (suc j) = 65535
 
 -- the highest key t at which a walk of m steps from p has at most j pixels below t: the first pixel is at least t, or it is a gap
-unfoldable pub reach : (ℕ → List ℕ) → (ℕ → ℕ) → ℕ → ℕ → ℕ → ℕ
-reach next g zero j p = alone (g p) j
-reach next g (suc m) j p = max (min (g p) (best (reach next g m j) (next p))) (fewer (λ i. best (reach next g m i) (next p)) j)
+unfoldable pub bestWalk : (ℕ → List ℕ) → (ℕ → ℕ) → ℕ → ℕ → ℕ → ℕ
+bestWalk next g zero j p = alone (g p) j
+bestWalk next g (suc m) j p = max (min (g p) (best (bestWalk next g m j) (next p))) (fewer (λ i. best (bestWalk next g m i) (next p)) j)
 
 -- the highest key t at which a walk of m steps from p, to a pixel that passes the test, has at most j pixels below t
-unfoldable pub reachFrom : (ℕ → List ℕ) → (ℕ → ℕ) → (ℕ → Bool) → ℕ → ℕ → ℕ → ℕ
-reachFrom next g ends zero j p = cond (ends p) (alone (g p) j) 0
-reachFrom next g ends (suc m) j p =
-    max (min (g p) (best (reachFrom next g ends m j) (next p))) (fewer (λ i. best (reachFrom next g ends m i) (next p)) j)
+unfoldable pub bestWalkTo : (ℕ → List ℕ) → (ℕ → ℕ) → (ℕ → Bool) → ℕ → ℕ → ℕ → ℕ
+bestWalkTo next g ends zero j p = cond (ends p) (alone (g p) j) 0
+bestWalkTo next g ends (suc m) j p =
+    max (min (g p) (best (bestWalkTo next g ends m j) (next p))) (fewer (λ i. best (bestWalkTo next g ends m i) (next p)) j)
 
 -- ---- the best walk through a pixel
 
 -- one term: a walk of l steps that ends at x with at most i pixels low, and one of the other steps that starts there with the other gaps
 abbrev pub joinedAt : (ℕ → List ℕ) → (ℕ → List ℕ) → (ℕ → ℕ) → ℕ → ℕ → ℕ → ℕ → ℕ → ℕ
-joinedAt next back g m k x l i = min (reach back g l i x) (reach next g (m - l) (k - i) x)
+joinedAt next back g m k x l i = min (bestWalk back g l i x) (bestWalk next g (m - l) (k - i) x)
 
 -- the best walk of m steps through x with at most k pixels low, but for the key of x itself
-unfoldable pub across : (ℕ → List ℕ) → (ℕ → List ℕ) → (ℕ → ℕ) → ℕ → ℕ → ℕ → ℕ
-across next back g m k x = upto (λ l. upto (joinedAt next back g m k x l) k) m
+unfoldable pub bestThrough : (ℕ → List ℕ) → (ℕ → List ℕ) → (ℕ → ℕ) → ℕ → ℕ → ℕ → ℕ
+bestThrough next back g m k x = upto (λ l. upto (joinedAt next back g m k x l) k) m
 
 -- the same in a direction of the plate
 abbrev pub in-direction : ℕ → ℕ → ℕ → ℕ → ℕ → (ℕ → ℕ) → ℕ → ℕ
-in-direction W H bit m k g x = across (next W H bit) (back W H bit) g m k x
+in-direction W H bit m k g x = bestThrough (next W H bit) (back W H bit) g m k x
 
 -- one term in a direction of the plate
 abbrev pub term : ℕ → ℕ → ℕ → ℕ → ℕ → (ℕ → ℕ) → ℕ → ℕ → ℕ → ℕ

@@ -14,5 +14,5 @@ pub record Levels (f : List ℤ) : Type 0 where
   pub size : (p : ℕ) → mag (levelAt f p) < 32768
 
 -- a level as the mode looks at it
-unfoldable pub turned : Setting → ℤ → ℤ
-turned s v = cond (eqb (s .mode) 0) v (mirror v)
+unfoldable pub asMode : Setting → ℤ → ℤ
+asMode s v = cond (eqb (s .mode) 0) v (mirror v)

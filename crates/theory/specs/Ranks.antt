@@ -14,9 +14,9 @@ unfoldable pub rank : ℕ → ℕ → ℕ → ℕ → ℕ
 rank W H bit p = rankAt H bit (p % W) (p / W)
 
 -- how many steps lead on from p: up to the highest rank, or back to the lowest
-abbrev pub room : ℕ → ℕ → ℕ → Bool → ℕ → ℕ
-room W H bit true p = rank W H bit p
-room W H bit false p = span W H bit - 1 - rank W H bit p
+abbrev pub stepsLeft : ℕ → ℕ → ℕ → Bool → ℕ → ℕ
+stepsLeft W H bit true p = rank W H bit p
+stepsLeft W H bit false p = span W H bit - 1 - rank W H bit p
 
-abbrev pub other : ℕ → ℕ → ℕ → Bool → ℕ → ℕ
-other W H bit side p = room W H bit (opposite side) p
+abbrev pub stepsBehind : ℕ → ℕ → ℕ → Bool → ℕ → ℕ
+stepsBehind W H bit side p = stepsLeft W H bit (opposite side) p

@@ -20,19 +20,19 @@ use Rattle.frames.proofs.KeyLaws.{key-plain, mirrored-key, keyBy-bound, level-r
 use Rattle.tracing.specs.Scans.{keyOf}
 use Rattle.tracing.specs.declared.scan.Scan.{Scan}
 use Rattle.theory.specs.BestWalks.{keyAt}
-use Rattle.theory.specs.Modes.{Levels, turned}
+use Rattle.theory.specs.Modes.{Levels, asMode}
 
 module _ (s : Setting) (v : ℤ) where
-  pub turned-opening : s .mode ≡ 0 → turned s v ≡ v
-  unfolding turned
+  pub turned-opening : s .mode ≡ 0 → asMode s v ≡ v
+  unfolding asMode
   turned-opening e = rw (eq-eqb (s .mode) 0 e)
 
-  pub turned-closing : (s .mode ≡ 0 → ⊥) → turned s v ≡ mirror v
-  unfolding turned
+  pub turned-closing : (s .mode ≡ 0 → ⊥) → asMode s v ≡ mirror v
+  unfolding asMode
   turned-closing n = rw (ne-eqb (s .mode) 0 n)
 
   -- the key by the mode is that of the turned level
-  pub key-turned : keyBy (s .mode) v ≡ key (turned s v)
+  pub key-turned : keyBy (s .mode) v ≡ key (asMode s v)
   key-turned =
       ⊎-elim
       (λ e. sym (key-plain (s .mode) v (eqb-true (s .mode) 0 e)) ∙ ap key (sym (turned-opening (eqb-true (s .mode) 0 e))))
@@ -40,12 +40,12 @@ module _ (s : Setting) (v : ℤ) where
       (true-or-false (eqb (s .mode) 0))
 
 -- the level with a key by the mode is the turned level of the key
-pub level-turned : (s : Setting) (k : ℕ) → levelBy (s .mode) k ≡ turned s (level k)
-unfolding levelBy turned
+pub level-turned : (s : Setting) (k : ℕ) → levelBy (s .mode) k ≡ asMode s (level k)
+unfolding levelBy asMode
 level-turned s k = refl
 
 -- so on the plate the keys that the engine works with are those of the turned plate
-pub keys-turned : (s : Setting) (f : List ℤ) → Levels f → (p : ℕ) → p < length f → keyBy (s .mode) (levelAt f p) ≡ keyAt (map (turned s) f) p
+pub keys-turned : (s : Setting) (f : List ℤ) → Levels f → (p : ℕ) → p < length f → keyBy (s .mode) (levelAt f p) ≡ keyAt (map (asMode s) f) p
 keys-turned s f l p h = key-turned s (levelAt f p) ∙ ap key (sym (levelAt-turned s f p h))
 
 -- ---- the keys of a scan

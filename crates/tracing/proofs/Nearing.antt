@@ -25,7 +25,7 @@ use Rattle.tracing.specs.Following.{Tells, Picked, TapTo, StepTo, OnRow,
 use Rattle.tracing.specs.declared.follow.Stand.{Stand}
 use Rattle.tracing.specs.declared.scan.Scan.{Scan}
 use Rattle.directions.specs.declared.sight.Sight.{Sight}
-use Rattle.theory.specs.BestWalks.{under, reachFrom}
+use Rattle.theory.specs.BestWalks.{under, bestWalkTo}
 use Rattle.theory.specs.Modes.{Levels}
 use Rattle.theory.specs.Walks.{around, opposite}
 use Rattle.tracing.proofs.Sighting.{sight-planes, sight-across, sight-sound, sight-states-few, sight-sequence}
@@ -228,8 +228,8 @@ module _ (s : Scan) (b : Bool) (plate : List ℤ) (x : ℕ) (r : Sight) (sound :
   stand-picked e =
       let q : ℕ = pixelIn (r .frame) (r .plan .ranked) (lineAt (r .plan) (stand .state) (stand .row)) (stand .pixel) in
       let none : stepsAt (r .plan) (stand .state) (stand .row) ≡ 0 = d .steps ∙ e in
-      let h : t ≤ reachFrom (around (opposite b) W H (bitOf s)) (keyOf s plate) (λ p. eqb p x) 0 (stand .gaps) q =
-      subst (λ (k : ℕ). t ≤ reachFrom (around (opposite b) W H (bitOf s)) (keyOf s plate) (λ p. eqb p x) k (stand .gaps) q) none (d .tells .counts) in
+      let h : t ≤ bestWalkTo (around (opposite b) W H (bitOf s)) (keyOf s plate) (λ p. eqb p x) 0 (stand .gaps) q =
+      subst (λ (k : ℕ). t ≤ bestWalkTo (around (opposite b) W H (bitOf s)) (keyOf s plate) (λ p. eqb p x) k (stand .gaps) q) none (d .tells .counts) in
       let l = from-last (around (opposite b) W H (bitOf s)) (keyOf s plate) (λ p. eqb p x) t (stand .gaps) q positive h in
       (place-is ∙ eqb-true q x (l .0), rw place-is (l .1))
 

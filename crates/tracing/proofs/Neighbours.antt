@@ -11,7 +11,7 @@ use Rattle.basics.proofs.Lists.{one-of-three}
 use Rattle.plate.specs.Directions.{Step, stepAt}
 use Rattle.plate.specs.Paths.{Reached, Reached.at, Reached.leaves, placeAt, stepFrom, reachedBy}
 use Rattle.theory.proofs.Steps.{stepped, landed-on, reached-find, reached-keep}
-use Rattle.frames.specs.Steps.{across, down, toward}
+use Rattle.frames.specs.Steps.{columnsOn, rowsOn, toward}
 use Rattle.frames.proofs.Landing.{less, step-place}
 use Rattle.frames.proofs.Bridge.{small-steps, around-steps}
 use Rattle.tracing.specs.Headings.{onward, roomAt, reachedAt, placeOr, Known}
@@ -57,14 +57,14 @@ module _ (h : Heading) (k : Known h) (p : ℕ) (on : p < h .width * h .height) w
   -- in coordinates plus one
   reached-place : (number : ℕ) → number < 3 →
       reachedAt h number p
-      ≡ placeAt (h .width) (h .height) (less (p % h .width + across (h .index) number (h .backwards))) (less (p / h .width + down (h .index) number (h .backwards)))
-  unfolding reachedAt across down
+      ≡ placeAt (h .width) (h .height) (less (p % h .width + columnsOn (h .index) number (h .backwards))) (less (p / h .width + rowsOn (h .index) number (h .backwards)))
+  unfolding reachedAt columnsOn rowsOn
   reached-place number l =
       let s = small-steps (h .index) number (k .listed) l in
       step-place (h .width) (h .height) (h .backwards) (stepAt (h .index) number) p (s .column) (s .row) on
 
   -- the place that the code computes
-  pub reached-by : (number : ℕ) → number < 3 → (X Y r : ℕ) → X ≡ across (h .index) number (h .backwards) → Y ≡ down (h .index) number (h .backwards) →
+  pub reached-by : (number : ℕ) → number < 3 → (X Y r : ℕ) → X ≡ columnsOn (h .index) number (h .backwards) → Y ≡ rowsOn (h .index) number (h .backwards) →
       placeOr (h .width * h .height) (placeAt (h .width) (h .height) (less (p % h .width + X)) (less (p / h .width + Y))) ≡ r →
       r ≡ placeOr (h .width * h .height) (reachedAt h number p)
   reached-by number l X Y r ex ey e = rw (reached-place number l, ← ex, ← ey) (sym e)

@@ -7,7 +7,7 @@ use Rattle.basics.proofs.Numbers.{below-four}
 use Rattle.plate.specs.Paths.{span}
 use Rattle.theory.proofs.Ranks.{ranked, bit-listed}
 use Rattle.tracing.specs.Headings.{shift}
-use Rattle.theory.specs.Ranks.{rankAt, rank, room}
+use Rattle.theory.specs.Ranks.{rankAt, rank, stepsLeft}
 
 pub span-small : (W H index : ℕ) → index < 4 → W ≤ 1024 → H ≤ 1024 → span W H (2 ^ index) ≤ 2048
 unfolding span
@@ -28,10 +28,10 @@ module _ (W H p : ℕ) where
   pub rank-below : (index : ℕ) → index < 4 → p < W * H → rank W H (2 ^ index) p < span W H (2 ^ index)
   rank-below index h on = ranked W H (2 ^ index) (bit-listed index h) .rank-bound p on
 
-  pub room-back : (bit : ℕ) (b : Bool) → b ≡ true → room W H bit b p ≡ rank W H bit p
+  pub room-back : (bit : ℕ) (b : Bool) → b ≡ true → stepsLeft W H bit b p ≡ rank W H bit p
   room-back bit b e = rw e
 
-  pub room-on : (bit : ℕ) (b : Bool) → b ≡ false → room W H bit b p ≡ span W H bit - 1 - rank W H bit p
+  pub room-on : (bit : ℕ) (b : Bool) → b ≡ false → stepsLeft W H bit b p ≡ span W H bit - 1 - rank W H bit p
   room-on bit b e = rw e
 
 -- ---- what a row adds, as the code tells the directions apart

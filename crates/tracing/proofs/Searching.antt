@@ -18,8 +18,8 @@ use Rattle.tracing.specs.Finding.{Noted, sharedAt, termAt, Possible, Fro
 use Rattle.tracing.specs.declared.find.Found.{Found}
 use Rattle.tracing.specs.declared.find.Notes.{Notes}
 use Rattle.theory.specs.Walks.{back, around}
-use Rattle.theory.specs.Ranks.{rank, room}
-use Rattle.theory.specs.BestWalks.{reach, term}
+use Rattle.theory.specs.Ranks.{rank, stepsLeft}
+use Rattle.theory.specs.BestWalks.{bestWalk, term}
 use Rattle.tracing.proofs.Rooms.{rank-below}
 
 -- ---- one row
@@ -107,11 +107,11 @@ module _ (W H m k spare : ℕ) (g : ℕ → ℕ) (x index : ℕ) (listed : index
   S b = side W H bit (bit-listed index listed) b
 
   -- a number of steps that no path can have there
-  too-many : (l i : ℕ) → place < l → reach (back W H bit) g l i x ≡ 0
+  too-many : (l i : ℕ) → place < l → bestWalk (back W H bit) g l i x ≡ 0
   unfolding around
   too-many l i h = reach-none (back W H bit) g l i x (λ ps w. omega (arith, S true .fits on w))
 
-  too-few : (l i : ℕ) → l ≤ m → l + spare < place → reach (next W H bit) g (m - l) (k - i) x ≡ 0
+  too-few : (l i : ℕ) → l ≤ m → l + spare < place → bestWalk (next W H bit) g (m - l) (k - i) x ≡ 0
   unfolding around
   too-few l i u h = reach-none (next W H bit) g (m - l) (k - i) x (λ ps w. omega (arith, S false .fits on w, rank-below W H x index listed on))
 

@@ -36,7 +36,7 @@ use Rattle.tracing.specs.Drawing.{Drawn}
 use Rattle.tracing.specs.declared.find.Found.{Found}
 use Rattle.theory.specs.Ranks.{rank}
 use Rattle.theory.specs.Walks.{around, back}
-use Rattle.theory.specs.Modes.{Levels, turned}
+use Rattle.theory.specs.Modes.{Levels, asMode}
 use Rattle.theory.specs.BestWalks.{keyAt, value, term}
 use Rattle.tracing.proofs.Directions.{index-at, chosen-usable, usable-chosen}
 use Rattle.tracing.proofs.Modes.{keys-turned}
@@ -121,16 +121,16 @@ module _ (W H : ℕ) (s : Setting) (f : List ℤ) (x : ℕ) (on : x < W * H) (lo
 
   module _ (exact : length f ≡ W * H) (levels : Levels f) where
     abbrev turnedPlate : List ℤ
-    turnedPlate = map (turned s) f
+    turnedPlate = map (asMode s) f
 
     same-keys : (p : ℕ) → p < W * H → keyAt turnedPlate p ≡ g p
     unfolding keysBy
     same-keys p h = sym (keys-turned s f levels p (omega arith))
 
-    pub level-found : levelAt (filtered s W H f) x ≡ turned s (level (r .key))
+    pub level-found : levelAt (filtered s W H f) x ≡ asMode s (level (r .key))
     level-found =
         levelAt-filtered s W H f x on
-        ∙ ap (turned s)
+        ∙ ap (asMode s)
         (opened-value turnedPlate (turned-levels s f levels .size) s W H m x on (let e : s .length ≡ suc m = omega arith in e)
         ∙ ap level (value-same W H (chosen (s .directions)) m (s .gaps) x on (keyAt turnedPlate) g same-keys ∙ value-found))
 
@@ -145,12 +145,12 @@ module _ (W H : ℕ) (s : Setting) (f : List ℤ) (x : ℕ) (on : x < W * H) (lo
           low-admitted turnedPlate (turned-levels s f levels .size) s (r .key) path
           (omega (arith, d .few, low-pixels-same (keyAt turnedPlate) g (r .key) path (λ p i. same-keys p (walk-stays W H (2 ^ r .index) (d .walk) start-on i))))
 
-      pub path-shown : (room work : ℕ) → Clear (traceChecks W H s (length f) x room work) → Shows s W H f x (2 ^ r .index) (turned s (level (r .key))) path
+      pub path-shown : (room work : ℕ) → Clear (traceChecks W H s (length f) x room work) → Shows s W H f x (2 ^ r .index) (asMode s (level (r .key))) path
       unfolding traceVerdict
       path-shown room work clear =
           let accepts = clear-accepted (traceChecks W H s (length f) x room work) (levelAt (filtered s W H f) x) clear ∙ ap accepted level-found in
           let e : suc m ≡ s .length = omega arith in
-          shows s W H f x room work (turned s (level (r .key))) accepts levels (2 ^ r .index) path
+          shows s W H f x room work (asMode s (level (r .key))) accepts levels (2 ^ r .index) path
           (usable-chosen W H s (r .index) (best .listed) (best .is-usable))
           (rw e at (walk-listed W H (2 ^ r .index) start-on (d .walk)))
           (mem-through x (d .crosses))

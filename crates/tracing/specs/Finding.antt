@@ -15,7 +15,7 @@ use Rattle.tracing.specs.Following.{Leads}
 use Rattle.tracing.specs.Usable.{usable}
 use Rattle.tracing.specs.declared.find.Found.{Found}
 use Rattle.tracing.specs.declared.find.Notes.{Notes}
-use Rattle.theory.specs.BestWalks.{reach, term}
+use Rattle.theory.specs.BestWalks.{bestWalk, term}
 use Rattle.theory.specs.Walks.{around}
 
 -- the numbers of a list from a place on
@@ -24,7 +24,7 @@ cells notes at i = getD notes (at + i) 0
 
 -- the best walks of 0 to m steps from x, k + 1 numbers for each
 pub record Noted (numbers : ℕ → ℕ) (W H bit : ℕ) (backwards : Bool) (g : ℕ → ℕ) (k m x : ℕ) : Type 0 where
-  pub is : (l j : ℕ) → l ≤ m → j ≤ k → numbers (l * (k + 1) + j) ≡ reach (around backwards W H bit) g l j x
+  pub is : (l j : ℕ) → l ≤ m → j ≤ k → numbers (l * (k + 1) + j) ≡ bestWalk (around backwards W H bit) g l j x
 
 -- A path that has i gaps to x and the others from x on, by the notes of the one part and of the other; not above the key of x itself.
 unfoldable pub sharedAt : List ℕ → ℕ → ℕ → ℕ → ℕ → ℕ → ℕ

@@ -7,7 +7,7 @@ use Rattle.plate.specs.Directions.{stepAt}
 use Rattle.plate.specs.Paths.{Reached, Reached.at, Reached.leaves, stepFrom, span}
 use Rattle.tracing.specs.declared.heading.Heading.{Heading}
 use Rattle.theory.specs.Walks.{around}
-use Rattle.theory.specs.Ranks.{room}
+use Rattle.theory.specs.Ranks.{stepsLeft}
 use Rattle.frames.specs.Steps.{toward}
 
 -- the direction's bit
@@ -20,7 +20,7 @@ onward h p = around (h .backwards) (h .width) (h .height) (bitOf h) p
 
 -- how many steps lead on from p
 abbrev pub roomAt : Heading → ℕ → ℕ
-roomAt h p = room (h .width) (h .height) (bitOf h) (h .backwards) p
+roomAt h p = stepsLeft (h .width) (h .height) (bitOf h) (h .backwards) p
 
 -- where the numbered step leads from p
 unfoldable pub reachedAt : Heading → ℕ → ℕ → Reached

@@ -7,7 +7,7 @@ ghost use Rattle.tracing.specs.Scans.{Sound, bitOf};
 ghost use Rattle.tracing.specs.Headings.{Known};
 ghost use Rattle.tracing.specs.Choosing.{Chosen};
 ghost use Rattle.tracing.specs.Following.{Within, Trail};
-ghost use Rattle.theory.specs.Ranks.{room};
+ghost use Rattle.theory.specs.Ranks.{stepsLeft};
 use crate::follow::index_after;
 use crate::heading::Heading;
 use crate::heading::neighbour;
@@ -45,7 +45,7 @@ pub(crate) fn follow_any(
     requires { ⌜ Sound scan ⌝ }
     requires { ⌜ (length (now path) ≤ 65536) × (start < length (now path)) ⌝ }
     requires { ⌜ Within backwards (length (now path)) start steps ⌝ }
-    requires { ⌜ (getD (now path) start 0 < scan .width * scan .height) × (steps ≤ room (scan .width) (scan .height) (bitOf scan) backwards (getD (now path) start 0)) ⌝ }
+    requires { ⌜ (getD (now path) start 0 < scan .width * scan .height) × (steps ≤ stepsLeft (scan .width) (scan .height) (bitOf scan) backwards (getD (now path) start 0)) ⌝ }
     ensures { λ _. ⌜ Trail (scan .width) (scan .height) (bitOf scan) backwards (now (path .entry)) (now (path .exit)) start steps ⌝ }
 {
     let heading = Heading {

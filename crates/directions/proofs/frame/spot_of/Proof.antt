@@ -15,13 +15,13 @@ div-row c = some-columns _ _ _ (c .pre .3)
 by-rows-requires : tie.Need-by-rows-requires
 by-rows-requires c κs = search needs
 
-turned-requires : tie.Need-turned-requires
-turned-requires c κs =
+counted-from-requires : tie.Need-counted-from-requires
+counted-from-requires c κs =
     let p = c .before .before .pre in
     row-on _ _ _ _ _ (frame-told _ _ (p .0) _ _ (p .1) (p .2) .1) (p .3) (sym (c .before .by-rows .ensures) ∙ c .if1 .taken)
 
-turned-requires-2 : tie.Need-turned-requires-2
-turned-requires-2 c κs =
+counted-from-requires-2 : tie.Need-counted-from-requires-2
+counted-from-requires-2 c κs =
     let b = c .before .before in
     let p = b .before .pre in
     column-on _ _ _ _ _ (frame-told _ _ (p .0) _ _ (p .1) (p .2) .1) (p .3) (sym (b .by-rows .ensures) ∙ c .before .if1 .taken)
@@ -29,16 +29,16 @@ turned-requires-2 c κs =
 returns : tie.Need-returns
 returns c =
     let b = c .before .before .before in
-    spot-by-rows _ _ _ _ _ _ _ (b .before .pre .2) (sym (b .by-rows .ensures) ∙ c .before .before .if1 .taken) (c .before .turned .ensures .0)
-    (c .turned2 .ensures .0)
+    spot-by-rows _ _ _ _ _ _ _ (b .before .pre .2) (sym (b .by-rows .ensures) ∙ c .before .before .if1 .taken) (c .before .counted-from .ensures .0)
+    (c .counted-from2 .ensures .0)
 
-turned-requires-3 : tie.Need-turned-requires-3
-turned-requires-3 c κs =
+counted-from-requires-3 : tie.Need-counted-from-requires-3
+counted-from-requires-3 c κs =
     let p = c .before .before .pre in
     line-on _ _ _ _ _ (frame-told _ _ (p .0) _ _ (p .1) (p .2) .1) (p .3) (sym (c .before .by-rows .ensures) ∙ c .if1 .left)
 
-turned-requires-4 : tie.Need-turned-requires-4
-turned-requires-4 c κs =
+counted-from-requires-4 : tie.Need-counted-from-requires-4
+counted-from-requires-4 c κs =
     let b = c .before .before in
     let p = b .before .pre in
     pixel-on _ _ _ _ _ (frame-told _ _ (p .0) _ _ (p .1) (p .2) .1) (p .3) (sym (b .by-rows .ensures) ∙ c .before .if1 .left)
@@ -46,8 +46,8 @@ turned-requires-4 c κs =
 returns-2 : tie.Need-returns-2
 returns-2 c =
     let b = c .before .before .before in
-    spot-by-columns _ _ _ _ _ _ _ (b .before .pre .2) (sym (b .by-rows .ensures) ∙ c .before .before .if1 .left) (c .before .turned3 .ensures .0)
-    (c .turned4 .ensures .0)
+    spot-by-columns _ _ _ _ _ _ _ (b .before .pre .2) (sym (b .by-rows .ensures) ∙ c .before .before .if1 .left) (c .before .counted-from3 .ensures .0)
+    (c .counted-from4 .ensures .0)
 
 pub spot-of-spec : {M : Type 1} → statement M
 spot-of-spec =
@@ -56,9 +56,9 @@ spot-of-spec =
     rem-column
     div-row
     by-rows-requires
-    turned-requires
-    turned-requires-2
+    counted-from-requires
+    counted-from-requires-2
     returns
-    turned-requires-3
-    turned-requires-4
+    counted-from-requires-3
+    counted-from-requires-4
     returns-2)

@@ -1,6 +1,6 @@
 -- `columns_on` meets its contract: the table's entry, read signed, plus one.
 use borrow.Author.Needs.{needs}
-use Rattle.frames.specs.Steps.{across}
+use Rattle.frames.specs.Steps.{columnsOn}
 use Rattle.frames.proofs.StepLaws.{biased-read}
 use Rattle.frames.proofs.steps.columns_on.Statement.{statement}
 use Rattle.frames.proofs.steps.columns_on.Tie as tie
@@ -12,7 +12,7 @@ bias-requires : tie.Need-bias-requires
 bias-requires c κs = search needs
 
 returns : tie.Need-returns
-unfolding across
+unfolding columnsOn
 returns c = (biased-read _ (c .before .column-change .result) _ _ (search needs) (c .bias .ensures .0) (c .before .column-change .ensures), c .bias .ensures .1)
 
 pub columns-on-spec : {M : Type 1} → statement M

@@ -1,10 +1,10 @@
--- `turned` meets its contract: its test is the one of the definition.
+-- `counted_from` meets its contract: its test is the one of the definition.
 use mathlib.Core.Path.{sym}
 use native.Mathlib.Omega.{arith}
 use borrow.Author.Needs.{needs}
 use Rattle.frames.proofs.SpotLaws.{turned-last, turned-first}
-use Rattle.directions.proofs.frame.turned.Statement.{statement}
-use Rattle.directions.proofs.frame.turned.Tie as tie
+use Rattle.directions.proofs.frame.counted_from.Statement.{statement}
+use Rattle.directions.proofs.frame.counted_from.Tie as tie
 
 sub-result : tie.Need-sub-result
 sub-result c = search needs
@@ -18,5 +18,5 @@ returns c = let a = c .before .args in (sym (turned-last (a .last) (a .n) (a .i)
 returns-2 : tie.Need-returns-2
 returns-2 c = let a = c .before .args in (sym (turned-first (a .last) (a .n) (a .i) (c .if1 .left)), c .before .pre)
 
-pub turned-spec : {M : Type 1} → statement M
-turned-spec = tie.close (tie.spec sub-result sub-result-2 returns returns-2)
+pub counted-from-spec : {M : Type 1} → statement M
+counted-from-spec = tie.close (tie.spec sub-result sub-result-2 returns returns-2)
