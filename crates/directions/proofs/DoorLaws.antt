@@ -1,14 +1,14 @@
--- What the doors' tests say of numbers that pass them, and the tests asked one after the other, as the code asks them.
+-- What the doors' tests say of numbers that pass them, and that numbers of which it holds pass.
 use Prim.Native.Nat.{ℕ, _+_, _*_, _^_, _≤_, _<_}
-use mathlib.Core.Path.{_≡_, refl, sym, _∙_}
-use mathlib.Core.Bool.{Bool, true, false, cond, not, _&&_, _||_}
+use mathlib.Core.Path.{_≡_, refl}
+use mathlib.Core.Bool.{Bool, true, false, not, _&&_, _||_}
 use mathlib.Core.List.{List}
 use mathlib.Core.Logic.{inl, inr}
 use native.Mathlib.Nat.{mul-le-mul}
 use native.Mathlib.Omega.{arith}
-use lib.Dec.{leb, ltb, eqb}
+use lib.Dec.{leb, eqb}
 use lib.IntN.{ℤ}
-use borrow.Author.Tests.{le-leb, lt-leb, leb-true, eq-eqb, ne-eqb, eqb-true, lt-ltb, le-ltb}
+use borrow.Author.Tests.{le-leb, leb-true, eq-eqb, eqb-true, lt-ltb}
 use Rattle.basics.proofs.Numbers.{le-or-lt}
 use Rattle.plate.specs.Limits.{maxLength, maxGaps}
 use Rattle.plate.specs.Paths.{span}
@@ -52,23 +52,6 @@ pub record Fitting (W H : ℕ) (s : Setting) (index : ℕ) : Type 0 where
   pub long : s .length ≤ span W H (2 ^ index)
 
 module _ (W H : ℕ) (s : Setting) (index : ℕ) where
-  -- the tests in their order
-  pub fits-1 : s .length < 1 → false ≡ fits W H s index
-  unfolding fits
-  fits-1 a = rw (lt-leb 1 (s .length) a) refl
-
-  pub fits-2 : 1 ≤ s .length → 1024 < s .length → false ≡ fits W H s index
-  unfolding fits
-  fits-2 a b = rw (le-leb 1 (s .length) a, lt-leb (s .length) 1024 b) refl
-
-  pub fits-3 : 1 ≤ s .length → s .length ≤ 1024 → 8 < s .gaps → false ≡ fits W H s index
-  unfolding fits
-  fits-3 a b d = rw (le-leb 1 (s .length) a, le-leb (s .length) 1024 b, lt-leb (s .gaps) 8 d) refl
-
-  pub fits-4 : 1 ≤ s .length → s .length ≤ 1024 → s .gaps ≤ 8 → leb (s .length) (spanOf W H index) ≡ fits W H s index
-  unfolding fits
-  fits-4 a b d = rw (le-leb 1 (s .length) a, le-leb (s .length) 1024 b, le-leb (s .gaps) 8 d) refl
-
   pub fitting : fits W H s index ≡ true → Fitting W H s index
   unfolding fits
   fitting e =
@@ -91,8 +74,14 @@ module _ (W H : ℕ) (s : Setting) (index : ℕ) where
       }
 
   pub fits-if : Fitting W H s index → fits W H s index ≡ true
+  unfolding fits
   fits-if f =
-      sym (fits-4 (f .some) (f .few) (f .few-gaps)) ∙ le-leb (s .length) (spanOf W H index) (rw (span-good (f .size) index (f .known)) (f .long))
+      rw (
+        le-leb 1 (s .length) (f .some),
+        le-leb (s .length) maxLength (f .few),
+        le-leb (s .gaps) maxGaps (f .few-gaps),
+        le-leb (s .length) (spanOf W H index) (rw (span-good (f .size) index (f .known)) (f .long)),
+      )
 
 -- ---- the filter's door
 
@@ -107,23 +96,6 @@ pub work-small : (k n : ℕ) → k ≤ 8 → n ≤ 65536 → 4 * (k + 1) * n ≤
 work-small k n h l = mul-le-mul {n₁ = 4 * (k + 1)} {m₁ = n} {n₂ = 36} {m₂ = 65536} (omega arith) l
 
 module _ (W H : ℕ) (s : Setting) (index plate result work : ℕ) where
-  pub opens-1 : fits W H s index ≡ false → false ≡ opens W H s index plate result work
-  unfolding opens
-  opens-1 a = rw a refl
-
-  module _ (fit : fits W H s index ≡ true) where
-    pub opens-2 : (plate ≡ W * H → ⊥) → false ≡ opens W H s index plate result work
-    unfolding opens
-    opens-2 b = rw (fit, ne-eqb plate (W * H) b) refl
-
-    pub opens-3 : plate ≡ W * H → (result ≡ W * H → ⊥) → false ≡ opens W H s index plate result work
-    unfolding opens
-    opens-3 b d = rw (fit, eq-eqb plate (W * H) b, ne-eqb result (W * H) d) refl
-
-    pub opens-4 : plate ≡ W * H → result ≡ W * H → leb (4 * (s .gaps + 1) * (W * H)) work ≡ opens W H s index plate result work
-    unfolding opens
-    opens-4 b d = rw (fit, eq-eqb plate (W * H) b, eq-eqb result (W * H) d) refl
-
   pub openable : opens W H s index plate result work ≡ true → Openable W H s index plate result work
   unfolding opens
   openable e =
@@ -142,32 +114,26 @@ module _ (W H : ℕ) (s : Setting) (index plate result work : ℕ) where
       }
 
   pub opens-if : Openable W H s index plate result work → opens W H s index plate result work ≡ true
-  opens-if o = sym (opens-4 (fits-if W H s index (o .fitting)) (o .plate-size) (o .result-size)) ∙ le-leb _ work (o .work-size)
+  unfolding opens
+  opens-if o =
+      rw (
+        fits-if W H s index (o .fitting),
+        eq-eqb plate (W * H) (o .plate-size),
+        eq-eqb result (W * H) (o .result-size),
+        le-leb (4 * (s .gaps + 1) * (W * H)) work (o .work-size),
+      )
 
 -- ---- where keys are kept
 
 module _ (W H index : ℕ) (ranked : Bool) where
-  pub keeps-1 : spanOf W H index < 1 → false ≡ keeps W H index ranked
-  unfolding keeps
-  keeps-1 a = rw (lt-leb 1 (spanOf W H index) a) refl
-
-  pub keeps-2 : 1 ≤ spanOf W H index → ranked ≡ false → true ≡ keeps W H index ranked
-  unfolding keeps
-  keeps-2 a b = rw (le-leb 1 (spanOf W H index) a, b) refl
-
-  pub keeps-3 : (r : Frame) → r ≡ frameOf W H index → 1 ≤ spanOf W H index → ranked ≡ true → leb (r .across) (r .lines) ≡ keeps W H index ranked
-  unfolding keeps
-  keeps-3 r e a b = rw (e, le-leb 1 (spanOf W H index) a, b) refl
-
   pub keeps-if : GoodSize W H → index < 4 → (ranked ≡ true → frameOf W H index .across ≤ frameOf W H index .lines) → keeps W H index ranked ≡ true
-  keeps-if size known slim = go ranked refl
+  unfolding keeps
+  keeps-if size known slim = rw (le-leb 1 (spanOf W H index) (span-long size index known)) (go ranked slim)
     where
-      some : 1 ≤ spanOf W H index
-      some = span-long size index known
-
-      go : (b : Bool) → ranked ≡ b → keeps W H index ranked ≡ true
-      go true e = sym (keeps-3 (frameOf W H index) refl some e) ∙ le-leb _ _ (slim e)
-      go false e = sym (keeps-2 some e)
+      go : (b : Bool) → (b ≡ true → frameOf W H index .across ≤ frameOf W H index .lines) →
+          (not b || leb (frameOf W H index .across) (frameOf W H index .lines)) ≡ true
+      go true h = le-leb (frameOf W H index .across) (frameOf W H index .lines) (h refl)
+      go false h = refl
 
   pub record Keeping : Type 0 where
     pub size : GoodSize W H
@@ -206,18 +172,6 @@ module _ (W H index : ℕ) (ranked : Bool) where
       let area : r .lines * r .across ≡ W * H = rw e (k .area) in record { keys = rw (← e, ← area) filled; small = rw (← e, ← area) small }
 
   module _ (plate work : ℕ) where
-    pub lays-1 : keeps W H index ranked ≡ false → false ≡ lays W H index ranked plate work
-    unfolding lays
-    lays-1 a = rw a refl
-
-    pub lays-2 : keeps W H index ranked ≡ true → (plate ≡ W * H → ⊥) → false ≡ lays W H index ranked plate work
-    unfolding lays
-    lays-2 a b = rw (a, ne-eqb plate (W * H) b) refl
-
-    pub lays-3 : keeps W H index ranked ≡ true → plate ≡ W * H → leb (W * H) work ≡ lays W H index ranked plate work
-    unfolding lays
-    lays-3 a b = rw (a, eq-eqb plate (W * H) b) refl
-
     pub laying : lays W H index ranked plate work ≡ true → Keeping × (plate ≡ W * H) × (W * H ≤ work)
     unfolding lays
     laying e =
@@ -229,17 +183,9 @@ module _ (W H index : ℕ) (ranked : Bool) where
 
     pub lays-if : GoodSize W H → index < 4 → (ranked ≡ true → frameOf W H index .across ≤ frameOf W H index .lines) → plate ≡ W * H → W * H ≤ work →
         lays W H index ranked plate work ≡ true
-    lays-if size known slim is fit = sym (lays-3 (keeps-if size known slim) is) ∙ le-leb _ work fit
+    unfolding lays
+    lays-if size known slim is fit = rw (keeps-if size known slim, eq-eqb plate (W * H) is, le-leb (W * H) work fit)
 
-  module _ (q : ℕ) where
-    pub place-none : keeps W H index ranked ≡ false → 0 ≡ placeKeptBy W H index ranked q
-    unfolding placeKeptBy
-    place-none a = rw a refl
-
-    pub place-past : keeps W H index ranked ≡ true → W * H ≤ q → 0 ≡ placeKeptBy W H index ranked q
-    unfolding placeKeptBy
-    place-past a b = rw (a, le-ltb q (W * H) b) refl
-
-    pub place-there : keeps W H index ranked ≡ true → q < W * H → placeKept (frameOf W H index) ranked q ≡ placeKeptBy W H index ranked q
-    unfolding placeKeptBy
-    place-there a b = rw (a, lt-ltb q (W * H) b) refl
+  pub place-there : (q : ℕ) → keeps W H index ranked ≡ true → q < W * H → placeKept (frameOf W H index) ranked q ≡ placeKeptBy W H index ranked q
+  unfolding placeKeptBy
+  place-there q a b = rw (a, lt-ltb q (W * H) b)

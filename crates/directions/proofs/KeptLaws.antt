@@ -137,18 +137,6 @@ module _ (r : Frame) (a : Area) (area : AreaOf r a) (rows planes : ℕ) where
       let on = rank-on (a .top) (a .bottom) (a .left) (a .right) line x lo hi in
       record { column = omega (arith, area .narrow, on .0); within = omega (arith, area .low, area .high, on .2); reached = λ t. on .1 }
 
-  pub kept-straight : (back : Bool) (e m x : ℕ) → m < rowsIn (straightPlan r back a rows planes) e →
-      rowLo (straightPlan r back a rows planes) e m ≤ x → x < rowHi (straightPlan r back a rows planes) e m →
-      placeKept r false (rowAt (straightPlan r back a rows planes) e m + x) ≡ pixelIn r false (lineAt (straightPlan r back a rows planes) e m) x
-  kept-straight back e m x h lo hi = kept-on r (straightPlan r back a rows planes) (sized-straight back) e m x (on-straight back e m x h lo hi)
-
-  pub kept-ranked : (by-rows back : Bool) → r .across ≤ r .lines → (e m x : ℕ) →
-      rowLo (rankedPlan r by-rows back a rows planes) e m ≤ x → x < rowHi (rankedPlan r by-rows back a rows planes) e m →
-      placeKept r true (rowAt (rankedPlan r by-rows back a rows planes) e m + x)
-      ≡ pixelIn r true (lineAt (rankedPlan r by-rows back a rows planes) e m) x
-  kept-ranked by-rows back slim e m x lo hi =
-      kept-on r (rankedPlan r by-rows back a rows planes) (sized-ranked by-rows back slim) e m x (on-ranked by-rows back e m x lo hi)
-
 module _ (r : Frame) (rows planes : ℕ) (by-rows : Bool) where
   pub sized-still : (back : Bool) → PlanOn r (stillPlan r by-rows back rows planes)
   sized-still back = record { same-lines = refl; same-across = refl; slim = λ h. absurd (true≢false (sym h)) }

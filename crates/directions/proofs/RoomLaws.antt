@@ -8,15 +8,17 @@ use native.Mathlib.Nat.{mul-le-mul, mul-le-mul-right, mul-left-comm}
 use native.Mathlib.Omega.{arith}
 use Rattle.basics.proofs.Numbers.{le-or-lt}
 use Rattle.basics.proofs.Tests.{true-or-false}
-use Rattle.frames.specs.Frames.{Bounded, Framed}
+use Rattle.frames.specs.Frames.{Framed}
 use Rattle.frames.specs.declared.frame.Frame.{Frame}
 use Rattle.plans.specs.Plans.{halfOf, stateSize, keysSize}
+use Rattle.plans.specs.Forms.{wellFormed}
 use Rattle.plans.specs.declared.plan.Plan.{Plan}
+use Rattle.plans.proofs.FormFacts.{formed}
 use Rattle.sweeps.specs.Doors.{roomFor}
 use Rattle.sweeps.proofs.DoorTests.{room-linked, room-alone}
-use Rattle.directions.specs.Plans.{straightPlan, stillPlan, rankedPlan, filterPlan, byRanks, spareOf, wholeArea, FrameOf}
+use Rattle.directions.specs.Plans.{filterPlan, byRanks, FrameOf}
 use Rattle.directions.proofs.ChoiceLaws.{filter-choice}
-use Rattle.directions.proofs.FilterLaws.{ranks-fit, still-few, straight-few}
+use Rattle.directions.proofs.FilterLaws.{ranks-fit, still-few, straight-few, filter-formed}
 
 -- the keys and a state find room, where states are linked two of them, and the rows held of two numbers too
 pub record Roomy (p : Plan) (room : ℕ) : Type 0 where
@@ -25,8 +27,12 @@ pub record Roomy (p : Plan) (room : ℕ) : Type 0 where
   pub halves : halfOf p + halfOf p ≤ 18612
   pub row : p .across + 7 ≤ 1032
   pub keys : keysSize p ≤ 65536
+  pub some : 1 ≤ stateSize p
 
 -- ---- numbers
+
+product-some : (a b : ℕ) → 1 ≤ a → 1 ≤ b → 1 ≤ a * b
+product-some a b h k = mul-le-mul {n₁ = 1} {m₁ = 1} {n₂ = a} {m₂ = b} h k
 
 state-below : (rows lines across planes : ℕ) → rows ≤ lines → rows * (planes * across) ≤ planes * (lines * across)
 state-below rows lines across planes h = omega (arith, mul-le-mul-right (planes * across) h, mul-left-comm lines planes across)
@@ -54,17 +60,19 @@ half-below p few wide short =
       | inr e ↦ rw e (omega (arith, block-below (p .planes) (p .across) 1024 few wide))
     ]
 
-pub roomy : (p : Plan) (room : ℕ) → 1 ≤ p .planes → p .planes ≤ 9 → p .across ≤ 1024 → p .lines * p .across ≤ 65536 → p .rows ≤ p .lines →
-    (p .linked ≡ true → p .across ≤ p .lines) → 4 * p .planes * (p .lines * p .across) ≤ room → Roomy p room
-roomy p room some few wide keys fit slim h =
+pub roomy : (p : Plan) (room : ℕ) → wellFormed p ≡ true → p .rows ≤ p .lines → (p .linked ≡ true → p .across ≤ p .lines) →
+    4 * p .planes * (p .lines * p .across) ≤ room → Roomy p room
+roomy p room form fit slim h =
+    let l = formed p form .limits in
     let state : stateSize p ≤ p .planes * (p .lines * p .across) = state-below (p .rows) (p .lines) (p .across) (p .planes) fit in
-    let kept : keysSize p ≤ p .planes * (p .lines * p .across) = keys-below (p .planes) (p .lines * p .across) some in
+    let kept : keysSize p ≤ p .planes * (p .lines * p .across) = keys-below (p .planes) (p .lines * p .across) (l .some-planes) in
     record {
       alone = omega arith;
       pair = λ _. omega arith;
-      halves = half-below p few wide (λ e. short-below (p .lines) (p .across) (slim e) keys);
-      row = omega arith;
-      keys = keys;
+      halves = half-below p (l .few-planes) (l .few-across) (λ e. short-below (p .lines) (p .across) (slim e) (l .few-pixels));
+      row = omega (arith, l .few-across);
+      keys = l .few-pixels;
+      some = product-some (p .rows) (p .planes * p .across) (l .some-rows) (product-some (p .planes) (p .across) (l .some-planes) (l .some-across));
     }
 
 -- so much as a sweep asks for
@@ -74,22 +82,6 @@ room-asked p room h =
       | inl e ↦ omega (arith, room-linked p e, h .pair e)
       | inr e ↦ omega (arith, room-alone p e, h .alone)
     ]
-
--- ---- the plans of the filter
-
-module _ (r : Frame) {W H index : ℕ} (L : ℕ) (framed : Framed r W H index) (of : FrameOf r W H index) (some : 1 ≤ L) (few : L ≤ 1024)
-    (fit : L ≤ r .lines + cond (r .diagonal) (r .across - 1) 0) where
-  pub filter-room : (by-rows back : Bool) (planes room : ℕ) → 1 ≤ planes → planes ≤ 9 → 4 * planes * (r .lines * r .across) ≤ room →
-      Roomy (filterPlan r by-rows back L planes) room
-  filter-room by-rows back planes room some-planes few-planes h =
-      let b : Bounded r = framed .bounded in
-      filter-choice r L by-rows planes (λ (p : Bool → Plan) (n : ℕ). Roomy (p back) room)
-      (λ d k. roomy (rankedPlan r by-rows back (wholeArea r) (spareOf r L + 1) planes) room some-planes few-planes (b .few-across) (b .few-pixels)
-      (ranks-fit r L k) (λ _. of .slim d) h)
-      (λ d k. roomy (stillPlan r by-rows back L planes) room some-planes few-planes (b .few-across) (b .few-pixels)
-      (still-few r L framed of some few fit d k) (λ _. of .slim d) h)
-      (λ d. roomy (straightPlan r back (wholeArea r) L planes) room some-planes few-planes (b .few-across) (b .few-pixels)
-      (straight-few r L framed of some few fit d) (λ f. absurd (true≢false (sym f))) h)
 
 -- ---- what the plan says of itself
 
@@ -112,3 +104,21 @@ module _ (r : Frame) (by-rows back : Bool) (L planes : ℕ) where
       (λ d k. rw (k, d))
       (λ d k. rw (k, d))
       (λ d. rw d)
+
+-- ---- the plans of the filter
+
+module _ (r : Frame) {W H index : ℕ} (L : ℕ) (framed : Framed r W H index) (of : FrameOf r W H index) (some : 1 ≤ L) (few : L ≤ 1024)
+    (fit : L ≤ r .lines + cond (r .diagonal) (r .across - 1) 0) (by-rows back : Bool) (planes : ℕ) where
+  filter-fits : (filterPlan r by-rows back L planes .rows ≤ r .lines) × (filterPlan r by-rows back L planes .linked ≡ true → r .across ≤ r .lines)
+  filter-fits =
+      filter-choice r L by-rows planes (λ (p : Bool → Plan) (n : ℕ). (p back .rows ≤ r .lines) × (p back .linked ≡ true → r .across ≤ r .lines))
+      (λ d k. (ranks-fit r L k, λ _. of .slim d))
+      (λ d k. (still-few r L framed of some few fit d k, λ _. of .slim d))
+      (λ d. (straight-few r L framed of some few fit d, λ f. absurd (true≢false (sym f))))
+
+  pub filter-room : (room : ℕ) → 1 ≤ planes → planes ≤ 9 → 4 * planes * (r .lines * r .across) ≤ room → Roomy (filterPlan r by-rows back L planes) room
+  filter-room room some-planes few-planes h =
+      let lines = filter-lines r by-rows back L planes in
+      let across = filter-across r by-rows back L planes in
+      roomy (filterPlan r by-rows back L planes) room (filter-formed r L framed of some few fit by-rows planes back some-planes few-planes)
+      (rw lines (filter-fits .0)) (rw (lines, across) (filter-fits .1)) (rw (lines, across, filter-planes r by-rows back L planes) h)

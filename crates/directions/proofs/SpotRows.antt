@@ -7,10 +7,9 @@ use mathlib.Core.Logic.{_⊎_, inl, inr, ⊎-elim}
 use native.Mathlib.Omega.{arith}
 use borrow.Author.Tests.{le-leb, lt-leb}
 use Rattle.basics.proofs.Numbers.{le-or-lt}
-use Rattle.frames.proofs.PlateSpots.{gate-zero}
 use Rattle.frames.specs.Frames.{placeIn, spot}
 use Rattle.frames.specs.declared.frame.Frame.{Frame}
-use Rattle.frames.proofs.FrameSpots.{spot-on, spot-left, spot-right}
+use Rattle.frames.proofs.FrameSpots.{spot-on, spot-before, spot-after, spot-left, spot-right}
 use Rattle.states.specs.Rows.{gate, inRow}
 use Rattle.directions.specs.Plans.{AreaOf}
 use Rattle.directions.specs.declared.plan.Area.{Area}
@@ -67,17 +66,9 @@ module _ (lo hi : ℕ) (h : ℕ → ℕ) where
 -- ---- a spot is 0 where no pixel of the frame has a number there
 
 module _ (f : ℕ → ℕ) (r : Frame) where
-  spot-before : (Y X : ℕ) → Y < 1 → spot f r Y X ≡ 0
-  unfolding spot
-  spot-before Y X h = rw (lt-leb 1 Y h)
-
-  spot-after : (Y X : ℕ) → r .lines < Y → spot f r Y X ≡ 0
-  unfolding spot
-  spot-after Y X h = simp (lt-leb Y (r .lines) h, gate-zero)
-
   pub spot-zero :
       (Y X : ℕ) → ((i x : ℕ) → i < r .lines → x < r .across → Y ≡ suc i → X ≡ suc x → f (placeIn r i x) ≡ 0) → spot f r Y X ≡ 0
-  spot-zero zero X none = spot-before 0 X (omega arith)
+  spot-zero zero X none = spot-before f r 0 X refl
   spot-zero (suc i) zero none = spot-left f r (suc i) 0 refl
   spot-zero (suc i) (suc x) none =
       ⊎-elim
@@ -85,7 +76,7 @@ module _ (f : ℕ → ℕ) (r : Frame) where
       (λ l. spot-on f r i x k l ∙ none i x k l refl refl)
       (λ l. spot-right f r (suc i) (suc x) l)
       (le-or-lt (suc x) (r .across)))
-      (λ k. spot-after (suc i) (suc x) k)
+      (λ k. spot-after f r (suc i) (suc x) k)
       (le-or-lt (suc i) (r .lines))
 
 -- ---- any row against the spots of a line

@@ -15,7 +15,7 @@ use Rattle.theory.proofs.Ends.{from-start, from-step}
 use Rattle.theory.proofs.Maxima.{best-find}
 use Rattle.frames.specs.Frames.{placeIn, Framed}
 use Rattle.frames.specs.declared.frame.Frame.{Frame}
-use Rattle.directions.specs.Plans.{FrameOf, AreaOf}
+use Rattle.directions.specs.Plans.{FrameOf}
 use Rattle.directions.specs.Traces.{traceArea, SpotOf}
 use Rattle.directions.specs.declared.frame.Spot.{Spot}
 use Rattle.theory.specs.BestWalks.{bestWalkTo, alone, fewer, best}
@@ -137,25 +137,6 @@ off-ranks :
 off-ranks r true s n i x C d far = omega (arith, far, C .diagonal d)
 off-ranks r false s n i x C d far = omega (arith, far, C .diagonal d)
 
-line-distance :
-    (r : Frame) (back : Bool) (s : Spot) (n i x : ℕ) → Cone r back s n i x → r .diagonal ≡ false → cond back (s .line - i) (i - s .line) ≡ n
-line-distance r true s n i x C d = omega (arith, C .straight d)
-line-distance r false s n i x C d = omega (arith, C .straight d)
-
-off-distance :
-    (r : Frame) (back : Bool) (s : Spot) (n i x : ℕ) → Cone r back s n i x → r .diagonal ≡ true →
-    (n < cond back (s .line - i) (i - s .line)) ⊎ (n < cond back (s .pixel - x) (x - s .pixel)) → ⊥
-off-distance r true s n i x C d o = ⊎-elim (λ l. omega (arith, l, C .diagonal d)) (λ l. omega (arith, l, C .diagonal d)) o
-off-distance r false s n i x C d o = ⊎-elim (λ l. omega (arith, l, C .diagonal d)) (λ l. omega (arith, l, C .diagonal d)) o
-
--- ---- the area
-
-pub trace-area : (r : Frame) (back : Bool) (s : Spot) (target : ℕ) → SpotOf r s target → AreaOf r (traceArea r back s)
-trace-area r true s target S =
-    record { high = omega arith; low = omega (arith, S .on-line); wide = omega arith; narrow = omega (arith, S .on-pixel) }
-trace-area r false s target S =
-    record { high = omega (arith, S .on-line); low = omega arith; wide = omega (arith, S .on-pixel); narrow = omega arith }
-
 -- ---- the numbers of a trace
 
 -- the best walk of n steps with at most j gaps from a place to the picked one
@@ -197,16 +178,3 @@ module _
       cond back (traceArea r back s .bottom - 1 - i + (traceArea r back s .right - 1 - x)) (i - traceArea r back s .top + (x - traceArea r back s .left)) < n →
       traced W H index back g target n j (placeIn r i x) ≡ 0
   trace-too-far d n j i x hi hx far = trace-none n j i x hi hx (λ C. off-ranks r back s n i x C d far)
-
-  -- ---- by the distance of the line and of the pixel
-
-  pub trace-straight :
-      r .diagonal ≡ false → (n j i x : ℕ) → i < r .lines → x < r .across → (cond back (s .line - i) (i - s .line) ≡ n → ⊥) →
-      traced W H index back g target n j (placeIn r i x) ≡ 0
-  trace-straight d n j i x hi hx off = trace-none n j i x hi hx (λ C. off (line-distance r back s n i x C d))
-
-  pub trace-diagonal :
-      r .diagonal ≡ true → (n j i x : ℕ) → i < r .lines → x < r .across →
-      (n < cond back (s .line - i) (i - s .line)) ⊎ (n < cond back (s .pixel - x) (x - s .pixel)) →
-      traced W H index back g target n j (placeIn r i x) ≡ 0
-  trace-diagonal d n j i x hi hx off = trace-none n j i x hi hx (λ C. off-distance r back s n i x C d off)

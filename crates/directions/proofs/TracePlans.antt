@@ -5,12 +5,11 @@ use Prim.Native.Nat.{ℕ, _+_, _-_, _*_, _^_, _≤_, _<_, min}
 use mathlib.Core.Path.{_≡_, refl, sym, ap, _∙_}
 use mathlib.Core.Bool.{Bool, true, false, cond, true≢false}
 use mathlib.Core.Logic.{inl, inr, ⊎-elim}
-use native.Mathlib.Nat.{mul-le-mul}
 use native.Mathlib.Omega.{arith}
 use lib.Dec.{eqb}
 use Rattle.frames.specs.Frames.{placeIn, Bounded, Framed}
 use Rattle.frames.specs.declared.frame.Frame.{Frame}
-use Rattle.plans.specs.Plans.{lineAt, rowLo, rowHi, rowAt, rowsIn, halfOf, stateSize, keysSize}
+use Rattle.plans.specs.Plans.{lineAt, rowLo, rowHi, rowAt, rowsIn}
 use Rattle.plans.specs.Forms.{wellFormed}
 use Rattle.sweeps.specs.Stacks.{Sequence}
 use Rattle.plans.specs.declared.plan.Plan.{Plan}
@@ -27,7 +26,8 @@ use Rattle.directions.proofs.RankedLaws.{roomIn, ranked-grown}
 use Rattle.directions.proofs.RoomLaws.{Roomy, roomy}
 use Rattle.directions.proofs.SpotRows.{InArea, Beside}
 use Rattle.directions.proofs.StraightLaws.{straight-grown}
-use Rattle.directions.proofs.TraceAreas.{trace-area, trace-outside-lines, trace-outside-pixels, trace-too-far}
+use Rattle.directions.proofs.TraceAreas.{trace-outside-lines, trace-outside-pixels, trace-too-far}
+use Rattle.directions.proofs.TraceLaws.{trace-area}
 use Rattle.directions.proofs.TraceRows.{lineRows, rankRows, trace-started, trace-first}
 
 -- ---- which plan it is
@@ -67,15 +67,6 @@ module _ (r : Frame) (by-rows back : Bool) (L planes : ℕ) (s : Spot) where
   pub trace-ranked : tracePlan r by-rows back L planes s .ranked ≡ r .diagonal
   trace-ranked = trace-choice (λ (p : Plan) (n : ℕ). p .ranked ≡ r .diagonal) (λ d. sym d) (λ d. sym d)
 
-  pub trace-linked : tracePlan r by-rows back L planes s .linked ≡ r .diagonal
-  trace-linked = trace-choice (λ (p : Plan) (n : ℕ). p .linked ≡ r .diagonal) (λ d. sym d) (λ d. sym d)
-
-  pub trace-still : tracePlan r by-rows back L planes s .still ≡ false
-  trace-still = trace-choice (λ (p : Plan) (n : ℕ). p .still ≡ false) (λ d. refl) (λ d. refl)
-
-  pub trace-back : tracePlan r by-rows back L planes s .back ≡ back
-  trace-back = trace-choice (λ (p : Plan) (n : ℕ). p .back ≡ back) (λ d. refl) (λ d. refl)
-
   -- ---- few states, and few steps
 
   pub trace-states-few : 1 ≤ L → L ≤ 1024 → (traceStates r back L s ≤ L) × (traceStates r back L s ≤ 1024)
@@ -96,27 +87,6 @@ module _ (r : Frame) (back : Bool) (L : ℕ) (s : Spot) (area : AreaOf r (traceA
 
   pub rank-rows : 1 ≤ L → (1 ≤ rankRows r back L s) × (rankRows r back L s ≤ r .across)
   rank-rows some = omega (arith, area .wide, area .narrow)
-
--- the keys and a state find room, and so do the rows held of two numbers
-pub record TraceRoomy (p : Plan) (room : ℕ) : Type 0 where
-  pub alone : keysSize p + stateSize p ≤ room
-  pub halves : halfOf p + halfOf p ≤ 18612
-  pub row : p .across + 7 ≤ 1032
-  pub keys : keysSize p ≤ 65536
-  pub some : 1 ≤ stateSize p
-
-product-some : (a b : ℕ) → 1 ≤ a → 1 ≤ b → 1 ≤ a * b
-product-some a b h k = mul-le-mul {n₁ = 1} {m₁ = 1} {n₂ = a} {m₂ = b} h k
-
-trace-roomy : (p : Plan) (room : ℕ) → Roomy p room → 1 ≤ p .rows → 1 ≤ p .planes → 1 ≤ p .across → TraceRoomy p room
-trace-roomy p room h rows planes across =
-    record {
-      alone = h .alone;
-      halves = h .halves;
-      row = h .row;
-      keys = h .keys;
-      some = product-some (p .rows) (p .planes * p .across) rows (product-some (p .planes) (p .across) planes across);
-    }
 
 -- a pixel of a row is on the frame, and its key stands in its place
 pub record PixelOn (r : Frame) (p : Plan) (W H e m z : ℕ) : Type 0 where
@@ -140,7 +110,7 @@ module _ (r : Frame) (W H index : ℕ) (F : Framed r W H index) where
     plan = tracePlan r by-rows back L planes s
 
     abbrev area : AreaOf r (traceArea r back s)
-    area = trace-area r back s x S
+    area = trace-area r back s (S .on-line) (S .on-pixel)
 
     pub trace-formed : 1 ≤ L → L ≤ 1024 → 1 ≤ planes → planes ≤ 9 → wellFormed (tracePlan r by-rows back L planes s) ≡ true
     trace-formed some few some-planes few-planes =
@@ -151,23 +121,19 @@ module _ (r : Frame) (W H index : ℕ) (F : Framed r W H index) where
         (λ d. straight-formed r back (traceArea r back s) (lineRows r back L s) planes b area (line-rows r back L s area some .0) (omega arith)
         some-planes few-planes)
 
-    pub trace-room : 1 ≤ planes → planes ≤ 9 → 1 ≤ L → (room : ℕ) → 4 * planes * (r .lines * r .across) ≤ room →
-        TraceRoomy (tracePlan r by-rows back L planes s) room
-    trace-room some-planes few-planes some room h =
-        let b : Bounded r = F .bounded in
-        trace-choice r by-rows back L planes s (λ (p : Plan) (n : ℕ). TraceRoomy p room)
-        (λ d.
-        let rows = rank-rows r back L s area some in
-        let p = rankedPlan r by-rows back (traceArea r back s) (rankRows r back L s) planes in
-        trace-roomy p room
-        (roomy p room some-planes few-planes (b .few-across) (b .few-pixels) (omega (arith, rows .1, O .slim d)) (λ _. O .slim d) h)
-        (rows .0) some-planes (b .some-across))
-        (λ d.
-        let rows = line-rows r back L s area some in
-        let p = straightPlan r back (traceArea r back s) (lineRows r back L s) planes in
-        trace-roomy p room
-        (roomy p room some-planes few-planes (b .few-across) (b .few-pixels) (rows .1) (λ f. absurd (true≢false (sym f))) h)
-        (rows .0) some-planes (b .some-across))
+    trace-fits : 1 ≤ L → (plan .rows ≤ r .lines) × (plan .linked ≡ true → r .across ≤ r .lines)
+    trace-fits some =
+        trace-choice r by-rows back L planes s (λ (p : Plan) (n : ℕ). (p .rows ≤ r .lines) × (p .linked ≡ true → r .across ≤ r .lines))
+        (λ d. (omega (arith, rank-rows r back L s area some .1, O .slim d), λ _. O .slim d))
+        (λ d. (line-rows r back L s area some .1, λ f. absurd (true≢false (sym f))))
+
+    pub trace-room : 1 ≤ planes → planes ≤ 9 → 1 ≤ L → L ≤ 1024 → (room : ℕ) → 4 * planes * (r .lines * r .across) ≤ room →
+        Roomy (tracePlan r by-rows back L planes s) room
+    trace-room some-planes few-planes some few room h =
+        let lines = trace-lines r by-rows back L planes s in
+        let across = trace-across r by-rows back L planes s in
+        roomy plan room (trace-formed some few some-planes few-planes) (rw lines (trace-fits some .0)) (rw (lines, across) (trace-fits some .1))
+        (rw (lines, across, trace-planes r by-rows back L planes s) h)
 
     pub trace-pixels : (e m z : ℕ) → m < rowsIn (tracePlan r by-rows back L planes s) e → rowLo (tracePlan r by-rows back L planes s) e m ≤ z →
         z < rowHi (tracePlan r by-rows back L planes s) e m → PixelOn r (tracePlan r by-rows back L planes s) W H e m z

@@ -25,7 +25,7 @@ use Rattle.directions.proofs.KeptLaws.{RowOn, on-straight, on-ranked}
 use Rattle.directions.proofs.RankedLaws.{rank-on, rank-two-on}
 use Rattle.directions.proofs.StepPlaces.{clash, place-step}
 use Rattle.directions.proofs.StraightLaws.{line-before}
-use Rattle.directions.proofs.TraceAreas.{trace-area}
+use Rattle.directions.proofs.TraceLaws.{trace-area}
 use Rattle.directions.proofs.TraceRows.{lineRows, rankRows}
 use Rattle.directions.proofs.TracePlans.{trace-choice}
 
@@ -289,7 +289,7 @@ few-right false = omega arith
 module _ (r : Frame) (W H index : ℕ) (F : Framed r W H index) (by-rows back : Bool) (L planes : ℕ) (s : Spot) (x : ℕ) (S : SpotOf r s x)
     (e m z e′ m′ z′ : ℕ) where
   abbrev area : AreaOf r (traceArea r back s)
-  area = trace-area r back s x S
+  area = trace-area r back s (S .on-line) (S .on-pixel)
 
   abbrev ranked-plan : Bool → Plan
   ranked-plan rows = rankedPlan r rows back (traceArea r back s) (rankRows r back L s) planes

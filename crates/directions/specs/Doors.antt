@@ -30,7 +30,7 @@ frameOf W H index =
     (record { lines = H; across = W; leap = W; hop = 1; flipped = eqb row 2; mirrored = eqb column 2; diagonal = diagonal })
     (record { lines = W; across = H; leap = 1; hop = W; flipped = eqb column 2; mirrored = eqb row 2; diagonal = diagonal })
 
--- the pixel of a frame that stands at a line and a pixel of the plate's own count
+-- the pixel of a frame that has these numbers as the plate counts lines and pixels
 abbrev pub spotIn : Frame → ℕ → ℕ → Spot
 spotIn r i x = record { line = countedFrom (r .flipped) (r .lines) i; pixel = countedFrom (r .mirrored) (r .across) x }
 
@@ -47,7 +47,8 @@ unfoldable pub opens : ℕ → ℕ → Setting → ℕ → ℕ → ℕ → ℕ �
 opens W H s index plate result work =
     fits W H s index && eqb plate (W * H) && eqb result (W * H) && leb (4 * (s .gaps + 1) * (W * H)) work
 
--- there is such a direction on a plate of this size, and its keys can be kept by lines, or by ranks, of which there are no fewer than pixels
+-- there is such a direction on a plate of this size, and its keys can be kept by lines; or by ranks, where there are no fewer lines than a line has
+-- pixels
 unfoldable pub keeps : ℕ → ℕ → ℕ → Bool → Bool
 keeps W H index ranked = leb 1 (spanOf W H index) && (not ranked || leb (frameOf W H index .across) (frameOf W H index .lines))
 

@@ -29,11 +29,11 @@ module _ (f : ℕ → ℕ) (r : Frame) where
       gate-yes 1 (suc i) _ (omega arith) ∙ gate-yes (suc i) (r .lines) _ h ∙ gate-yes 1 (suc x) _ (omega arith) ∙ gate-yes (suc x) (r .across) _ k
       ∙ rw (a, b)
 
-  spot-before : (Y X : ℕ) → Y ≡ 0 → spot f r Y X ≡ 0
+  pub spot-before : (Y X : ℕ) → Y ≡ 0 → spot f r Y X ≡ 0
   unfolding spot
   spot-before Y X e = gate-no 1 Y _ (omega arith)
 
-  spot-after : (Y X : ℕ) → r .lines < Y → spot f r Y X ≡ 0
+  pub spot-after : (Y X : ℕ) → r .lines < Y → spot f r Y X ≡ 0
   unfolding spot
   spot-after Y X h = simp (lt-leb _ _ h, gate-zero)
 

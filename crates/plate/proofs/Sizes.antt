@@ -1,5 +1,5 @@
 -- A good size is one that refusal 1 does not forbid: both sides are 1 to 1,024, and there are at most 65,536 pixels.
-use Prim.Native.Nat.{ℕ, _*_, _≤_}
+use Prim.Native.Nat.{ℕ, _*_}
 use mathlib.Core.Path.{_≡_}
 use mathlib.Core.Bool.{false, _||_}
 use lib.Dec.{ltb, eqb}

@@ -1,6 +1,6 @@
 -- Laws of `spanOf`. The middle step tells which of the table's directions it is: each of the four is compared by computation.
 use Prim.Native.Nat.{ℕ, _+_, _-_, _^_, _≤_, _<_}
-use mathlib.Core.Path.{_≡_, refl, sym}
+use mathlib.Core.Path.{_≡_, refl, sym, _∙_}
 use mathlib.Core.Bool.{true, false}
 use native.Mathlib.Omega.{arith}
 use borrow.Author.Tests.{le-leb, lt-leb}
@@ -24,31 +24,34 @@ module _ (W H index : ℕ) (good : badSize W H ≡ false) where
   unfolding spanOf table
   no-direction h = rw (good, le-leb 4 index h)
 
-  pub span-listed : index < 4 → spanOf W H index ≡ span W H (2 ^ index)
-  unfolding spanOf table
-  span-listed h = rw (good, lt-leb 4 index h)
+  module _ (listed : index < 4) where
+    pub span-listed : span W H (2 ^ index) ≡ spanOf W H index
+    unfolding spanOf table
+    span-listed = rw (good, lt-leb 4 index listed)
 
--- whether the middle step stays in its column, or in its row: the bits of a change are 0
-pub span-rows : (W H index : ℕ) → index < 4 → ofZ w8 (stepAt index 1 .column) ≡ 0 → H ≡ span W H (2 ^ index)
-unfolding span stepAt table
-span-rows W H index h =
-    below-four (λ (i : ℕ). ofZ w8 (stepAt i 1 .column) ≡ 0 → H ≡ span W H (2 ^ i)) (λ e. refl) (λ e. absurd (omega arith)) (λ e. absurd (omega arith)) (λ e. absurd (omega arith)) index h
+    -- the middle step stays in its column, or in its row, where the bits of its change are 0
+    pub span-rows : ofZ w8 (stepAt index 1 .column) ≡ 0 → H ≡ spanOf W H index
+    unfolding span stepAt table
+    span-rows e =
+        below-four (λ (i : ℕ). ofZ w8 (stepAt i 1 .column) ≡ 0 → H ≡ span W H (2 ^ i))
+        (λ z. refl) (λ z. absurd (omega arith)) (λ z. absurd (omega arith)) (λ z. absurd (omega arith)) index listed e ∙ span-listed
 
-pub span-columns : (W H index : ℕ) → index < 4 → ofZ w8 (stepAt index 1 .row) ≡ 0 → W ≡ span W H (2 ^ index)
-unfolding span stepAt table
-span-columns W H index h =
-    below-four (λ (i : ℕ). ofZ w8 (stepAt i 1 .row) ≡ 0 → W ≡ span W H (2 ^ i)) (λ e. absurd (omega arith)) (λ e. refl) (λ e. absurd (omega arith)) (λ e. absurd (omega arith)) index h
+    pub span-columns : ofZ w8 (stepAt index 1 .row) ≡ 0 → W ≡ spanOf W H index
+    unfolding span stepAt table
+    span-columns e =
+        below-four (λ (i : ℕ). ofZ w8 (stepAt i 1 .row) ≡ 0 → W ≡ span W H (2 ^ i))
+        (λ z. absurd (omega arith)) (λ z. refl) (λ z. absurd (omega arith)) (λ z. absurd (omega arith)) index listed e ∙ span-listed
 
-pub span-diagonal : (W H index : ℕ) → index < 4 → (ofZ w8 (stepAt index 1 .column) ≡ 0 → ⊥) → (ofZ w8 (stepAt index 1 .row) ≡ 0 → ⊥) → W + H - 1 ≡ span W H (2 ^ index)
-unfolding span stepAt table
-span-diagonal W H index h =
-    below-four (λ (i : ℕ). (ofZ w8 (stepAt i 1 .column) ≡ 0 → ⊥) → (ofZ w8 (stepAt i 1 .row) ≡ 0 → ⊥) → W + H - 1 ≡ span W H (2 ^ i))
-    (λ p q. absurd (p refl)) (λ p q. absurd (q refl)) (λ p q. refl) (λ p q. refl) index h
+    pub span-diagonal : (ofZ w8 (stepAt index 1 .column) ≡ 0 → ⊥) → (ofZ w8 (stepAt index 1 .row) ≡ 0 → ⊥) → W + H - 1 ≡ spanOf W H index
+    unfolding span stepAt table
+    span-diagonal m n =
+        below-four (λ (i : ℕ). (ofZ w8 (stepAt i 1 .column) ≡ 0 → ⊥) → (ofZ w8 (stepAt i 1 .row) ≡ 0 → ⊥) → W + H - 1 ≡ span W H (2 ^ i))
+        (λ p q. absurd (p refl)) (λ p q. absurd (q refl)) (λ p q. refl) (λ p q. refl) index listed m n ∙ span-listed
 
 -- ---- for callers
 
 pub span-good : {W H : ℕ} → GoodSize W H → (index : ℕ) → index < 4 → spanOf W H index ≡ span W H (2 ^ index)
-span-good {W} {H} g index h = span-listed W H index (allowed-size g) h
+span-good {W} {H} g index h = sym (span-listed W H index (allowed-size g) h)
 
 pub span-bound : {W H : ℕ} → GoodSize W H → (index : ℕ) → index < 4 → spanOf W H index ≤ 2047
 unfolding span

@@ -18,7 +18,7 @@ use Rattle.basics.proofs.Numbers.{le-or-lt}
 use Rattle.basics.proofs.Tests.{true-or-false}
 use Rattle.survey_text.specs.Bytes.{comma}
 use Rattle.survey_text.specs.Format.{_>>=_, is, number, parts, numbers, list}
-use Rattle.survey_text.specs.Answers.{whether}
+use Rattle.survey_text.specs.Within.{whether}
 
 -- ---- the first part
 

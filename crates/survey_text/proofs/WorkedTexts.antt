@@ -10,9 +10,9 @@ use Rattle.plate.specs.Refusals.{judged, badSize, badLength, badGaps, badDirect
 use Rattle.survey_text.specs.Format.{is, isDigit, valueAfter, number, parts, numbers, list, nextLine, after, named, nothing}
 use Rattle.survey_text.specs.Reading.{opening, sizeJudged, next, atEnd, sizeLines, settingLines, rowLines, plateLines, reading}
 use Rattle.survey_text.specs.Printing.{digits, decimal, signedDecimal, parted, line, rows, outLine, outText, levelLine, pathLine, traceText, refusalText}
-use Rattle.survey_text.specs.Survey.{asked, requested, surveyText, answer}
+use Rattle.survey_text.specs.Survey.{prepared, requested, surveyText, answer}
 use Rattle.survey_text.specs.WorkedTexts.{workedTexts}
 
 pub worked-texts-hold : map (λ w. answer (w .text) (w .way) (w .path)) workedTexts ≡ map (λ w. w .prints) workedTexts
-unfolding workedTexts answer surveyText requested asked refusalText traceText pathLine levelLine outText outLine rows line parted signedDecimal decimal digits reading opening plateLines rowLines settingLines sizeLines sizeJudged atEnd next nothing named after nextLine list numbers parts number valueAfter isDigit is traceVerdict correctionVerdict settingVerdict badCorrection badReading badMode badDirections badGaps badLength badSize judged filtered closed opened openedAt highest greatest kept admits below crossed through paths pathsIn pathsFrom nextPlaces reachedBy arrivals stepFrom placeAt places chosen member steps stepsIn table mirror correctedPlate corrected signed upFrom firstOf keep any zipWith flatMap
+unfolding workedTexts answer surveyText requested prepared refusalText traceText pathLine levelLine outText outLine rows line parted signedDecimal decimal digits reading opening plateLines rowLines settingLines sizeLines sizeJudged atEnd next nothing named after nextLine list numbers parts number valueAfter isDigit is traceVerdict correctionVerdict settingVerdict badCorrection badReading badMode badDirections badGaps badLength badSize judged filtered closed opened openedAt highest greatest kept admits below crossed through paths pathsIn pathsFrom nextPlaces reachedBy arrivals stepFrom placeAt places chosen member steps stepsIn table mirror correctedPlate corrected signed upFrom firstOf keep any zipWith flatMap
 worked-texts-hold = refl

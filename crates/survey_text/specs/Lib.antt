@@ -1,8 +1,11 @@
+-- section 6 of document 01: the text that is read, the lines that are printed, and the answer
 pub mod Bytes
 pub mod Format
 pub mod Reading
 pub mod Printing
 pub mod Survey
+pub mod WorkedTexts
+-- what the code's contracts cite besides
 pub mod Answers
 pub mod Cursors
-pub mod WorkedTexts
+pub mod Within

@@ -5,6 +5,7 @@ use mathlib.Core.List.{List, [], _∷_, _++_}
 use mathlib.Core.Option.{Option, none, some}
 use lib.Dec.{ltb}
 use lib.ListN.{length}
+use Rattle.plate.specs.RefusalNumbers.{refusalLine, refusalLarge}
 use Rattle.plate.specs.Refusals.{Verdict, Verdict.accepted, Verdict.refused, row, judged, sizeCheck}
 use Rattle.plate.specs.declared.setting.Setting.{Setting}
 use Rattle.survey_text.specs.Bytes.{bytes}
@@ -40,7 +41,7 @@ pub record Rest : Type 0 where
 -- a line is taken, or refused with 13 and its number
 abbrev pub lineVerdict : {A : Type 0} → ℕ → Option A → Verdict A
 lineVerdict line (some a) = accepted a
-lineVerdict line none = refused 13 line
+lineVerdict line none = refused refusalLine line
 
 -- the next line: its name, then a value of this form. "A missing line is counted where it was due"
 unfoldable pub next : {A : Type 0} → List ℕ → (List ℕ → Option A) → Rest → Verdict (A × Rest)
@@ -50,15 +51,15 @@ next name form l =
 
 -- no line is left: an extra line is refused with 13 and its number
 unfoldable pub atEnd : Rest → Verdict Unit
-atEnd l = judged (row 13 (ltb 0 (length (l .bytes))) (l .line) ∷ []) tt
+atEnd l = judged (row refusalLine (ltb 0 (length (l .bytes))) (l .line) ∷ []) tt
 
 -- the whole text is still to be read, unless it is too long
 unfoldable pub opening : List ℕ → Verdict Rest
-opening text = judged (row 14 (ltb maxBytes (length text)) 0 ∷ []) (record { line = 1; bytes = text })
+opening text = judged (row refusalLarge (ltb maxBytes (length text)) 0 ∷ []) (record { line = 1; bytes = text })
 
 -- refusals 1 and 14 on the size
 unfoldable pub sizeJudged : ℕ → ℕ → Rest → Verdict ((ℕ × ℕ) × Rest)
-sizeJudged W H l = judged (sizeCheck W H ∷ row 14 (ltb maxPlate (W * H)) 0 ∷ []) ((W, H), l)
+sizeJudged W H l = judged (sizeCheck W H ∷ row refusalLarge (ltb maxPlate (W * H)) 0 ∷ []) ((W, H), l)
 
 -- the lines up to `height=`, then the size is judged
 unfoldable pub sizeLines : Rest → Verdict ((ℕ × ℕ) × Rest)

@@ -20,8 +20,8 @@ pub record Survey : Type 0 where
   pub levels : List ℤ
 
 -- what was read is corrected (9, 10), and its setting is made (2 to 5)
-unfoldable pub asked : PlateText → Verdict Survey
-asked t = do
+unfoldable pub prepared : PlateText → Verdict Survey
+prepared t = do
   let W = t .width
   let H = t .height
   _ ← correctionVerdict W H (t .readings) (t .words) (W * H)
@@ -30,7 +30,7 @@ asked t = do
 
 -- the text is read, and judged further
 unfoldable pub requested : List ℕ → Verdict Survey
-requested text = reading text >>= asked
+requested text = reading text >>= prepared
 
 -- the filtered plate
 abbrev pub filteredPlate : Survey → List ℤ
@@ -57,7 +57,7 @@ surveyText v way path =
 unfoldable pub answer : List ℕ → ℕ → List ℕ → List ℕ
 answer text way path = printed (requested text >>= λ v. accepted (surveyText v way path))
 
--- what is asked of the text that the program writes: it is the answer, with a way and a path that section 4 allows (`Shows`) where a trace is
+-- what is prepared of the text that the program writes: it is the answer, with a way and a path that section 4 allows (`Shows`) where a trace is
 -- accepted with this level
 pub record Answered (Shows : Survey → ℤ → ℕ → List ℕ → Type 0) (text written : List ℕ) : Type 0 where
   pub way : ℕ

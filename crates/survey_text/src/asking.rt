@@ -3,8 +3,9 @@ ghost use mathlib.Core.Path.{_≡_};
 ghost use Prim.Native.Nat.{_*_, _≤_};
 ghost use lib.ListN.{length};
 ghost use Rattle.survey_text.specs.Reading.{maxPlate};
-ghost use Rattle.survey_text.specs.Survey.{asked, requested};
-ghost use Rattle.survey_text.specs.Answers.{withLists, requestTold, levelsAfter, judgedTold};
+ghost use Rattle.survey_text.specs.Survey.{prepared, requested};
+ghost use Rattle.survey_text.specs.Answers.{requestTold, levelsAfter};
+ghost use Rattle.survey_text.specs.Within.{withLists, judgedTold};
 use crate::reading::Header;
 use crate::reading::MAX_PLATE;
 use crate::reading::Reading;
@@ -37,8 +38,8 @@ pub fn request(s: &[u8], levels: &mut [i16; MAX_PLATE]) -> Reading
 fn fill(head: Header, readings: &[u16], words: &[u16], levels: &mut [i16]) -> Reading
     requires { ⌜ head .width * head .height ≤ maxPlate ⌝ }
     requires { ⌜ maxPlate ≤ length (now levels) ⌝ }
-    ensures { λ r. ⌜ requestTold (now (levels .exit)) r ≡ asked (withLists head (now (readings .entry)) (now (words .entry))) ⌝ }
-    ensures { λ r. ⌜ now (levels .exit) ≡ levelsAfter (asked (withLists head (now (readings .entry)) (now (words .entry)))) (now (levels .entry)) ⌝ }
+    ensures { λ r. ⌜ requestTold (now (levels .exit)) r ≡ prepared (withLists head (now (readings .entry)) (now (words .entry))) ⌝ }
+    ensures { λ r. ⌜ now (levels .exit) ≡ levelsAfter (prepared (withLists head (now (readings .entry)) (now (words .entry)))) (now (levels .entry)) ⌝ }
 {
     let verdict = judge(head, readings, words);
     let Reading::Plate(_) = verdict else {
@@ -53,7 +54,7 @@ fn fill(head: Header, readings: &[u16], words: &[u16], levels: &mut [i16]) -> Re
 // correction is tried in an array that is thrown away, since 9 and 10 come before 2 to 5.
 fn judge(head: Header, readings: &[u16], words: &[u16]) -> Reading
     requires { ⌜ head .width * head .height ≤ maxPlate ⌝ }
-    ensures { λ r. ⌜ r ≡ judgedTold head (asked (withLists head (now (readings .entry)) (now (words .entry)))) ⌝ }
+    ensures { λ r. ⌜ r ≡ judgedTold head (prepared (withLists head (now (readings .entry)) (now (words .entry)))) ⌝ }
 {
     let n = head.width * head.height;
     let mut tried = [0i16; MAX_PLATE];

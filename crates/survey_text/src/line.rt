@@ -5,7 +5,7 @@ ghost use Rattle.basics.specs.Lists.{firstOf};
 ghost use Rattle.survey_text.specs.Bytes.{newline};
 ghost use Rattle.survey_text.specs.Format.{is, after, named, number, list, nothing};
 ghost use Rattle.survey_text.specs.Reading.{next};
-ghost use Rattle.survey_text.specs.Answers.{whether, valueRead, Inside};
+ghost use Rattle.survey_text.specs.Within.{whether, valueRead, Inside};
 ghost use Rattle.survey_text.specs.Cursors.{Counted, Step};
 use crate::cursor::Cursor;
 use crate::number::Number;

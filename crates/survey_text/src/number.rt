@@ -2,7 +2,7 @@
 ghost use mathlib.Core.Path.{_≡_};
 ghost use lib.ListN.{length};
 ghost use Rattle.survey_text.specs.Format.{isDigit, number, list};
-ghost use Rattle.survey_text.specs.Answers.{numberRead, whether};
+ghost use Rattle.survey_text.specs.Within.{numberRead, whether};
 use crate::line::find;
 
 // The largest count of digits, and the largest number (document 01, section 6).

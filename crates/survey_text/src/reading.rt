@@ -5,7 +5,7 @@ ghost use mathlib.Core.List.{List};
 ghost use Prim.Native.Nat.{ℕ, _*_, _≤_};
 ghost use lib.ListN.{length};
 ghost use Rattle.survey_text.specs.Reading.{maxPlate, opening, sizeJudged, sizeLines, settingLines, rowLines, atEnd, plateLines, reading};
-ghost use Rattle.survey_text.specs.Answers.{readingTold};
+ghost use Rattle.survey_text.specs.Within.{readingTold};
 ghost use Rattle.survey_text.specs.Cursors.{Counted, Step, Last, stands};
 use crate::cursor::Cursor;
 use crate::line::bare_line;

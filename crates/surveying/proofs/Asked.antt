@@ -18,7 +18,7 @@ use Rattle.plate.proofs.Verdicts.{accepted-clear}
 use Rattle.plate.proofs.CorrectedLevels.{corrected-fits}
 use Rattle.plate.specs.declared.setting.Setting.{Setting}
 use Rattle.survey_text.specs.Reading.{PlateText, reading}
-use Rattle.survey_text.specs.Survey.{Survey, asked, requested}
+use Rattle.survey_text.specs.Survey.{Survey, prepared, requested}
 use Rattle.survey_text.proofs.Verdicts.{accepted-same, steps-accepted}
 use Rattle.survey_text.proofs.Heads.{Sized, reading-sized}
 use Rattle.survey_text.proofs.Requests.{same-setting}
@@ -73,7 +73,7 @@ made t s e l m z = let f : s ≡ t .setting = same-setting s (t .setting) e in
 
 -- an accepted survey can be filtered and traced
 pub requested-ready : (text : List ℕ) (v : Survey) → accepted v ≡ requested text → Ready v
-unfolding requested asked
+unfolding requested prepared
 requested-ready text v e =
     let a = steps-accepted (reading text) _ v e in
     let t = a .0 in

@@ -1,4 +1,4 @@
--- What a lent buffer holds after a write, and whether there is room for it.
+-- Cited by the contracts of private functions alone: what a lent buffer holds after a write, and whether there is room for it.
 use Prim.Native.Nat.{ℕ, _+_, _≤_}
 use mathlib.Core.Path.{_≡_}
 use mathlib.Core.List.{List, _++_}

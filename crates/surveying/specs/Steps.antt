@@ -7,6 +7,7 @@ use lib.Dec.{leb}
 use lib.IntN.{ℤ, pos}
 use lib.ListN.{length, getD}
 use lib.Signed.{mag}
+use Rattle.plate.specs.RefusalNumbers.{refusalPlace, refusalNoPath}
 use Rattle.plate.specs.Refusals.{Verdict, Verdict.accepted, badSize, settingVerdict}
 use Rattle.plate.specs.declared.answer.Traced.{Traced}
 use Rattle.plate.specs.declared.answer.Traced.the-variants.{Path, Refused as Untraced}
@@ -64,7 +65,7 @@ OnPlate (Untraced number place) path = Unit
 
 -- the lines where no path is long enough
 abbrev pub pathless : Header → List ℕ
-pathless h = cond (leb (h .width * h .height) (h .at)) (refusalText 11 0) (refusalText 12 0)
+pathless h = cond (leb (h .width * h .height) (h .at)) (refusalText refusalPlace 0) (refusalText refusalNoPath 0)
 
 -- a text of at most so many bytes was written at a place of the buffer
 pub record WrittenShort (text : List ℕ) (most at : ℕ) (before after : List ℕ) (next : ℕ) : Type 0 where

@@ -1,5 +1,6 @@
 // The survey (document 01, section 6) as one function from text to text: reading, correction, setting,
-// filter, trace and printing in one call.
+// filter, trace and printing in one call. The crate survey_text reads; the answer's lines are written
+// here (printing.rt, over writing.rt; traced.rt for the trace's).
 //
 // specs/Surveying.antt says what it answers, by survey_text's definition of the answer and theory's of
 // what a trace shows.

@@ -57,13 +57,6 @@ module _ (work : List ℕ) (base : ℕ) (p : Plan) (f : ℕ → ℕ → ℕ → 
         found = λ e m x a h. d .found e m x a (tells-stored e m x (held e m x (h .row) (h .low) (h .high) a) h);
       }
 
--- ---- where a number stands
-
-pub number-within :
-    (p : Plan) (e m j x base size : ℕ) → m < rowsIn p e → j < p .planes → x ≤ p .across → base + stateSize p ≤ size →
-    base + m * rowSize p + j * p .across + x ≤ size
-number-within p e m j x base size h k l b = omega (arith, row-within p e m h, part-fits p j k)
-
 -- ---- row after row
 
 less-or-more : (n m : ℕ) → (n < m) ⊎ (m ≤ n)
@@ -161,11 +154,6 @@ module _ (work : List ℕ) (base : ℕ) (p : Plan) (state row past j t : ℕ) (r
           (record { row = there; low = omega arith; high = omega arith; counts = omega (arith, number-read (past - 1) (omega arith)) }))
 
 module _ (f : ℕ → ℕ → ℕ → ℕ → ℕ) (p : Plan) (s : Stand) (y X t older upper : ℕ) (a : older ≡ min 1 y) (b : upper ≡ min 1 (2 - y)) (r : Stand) where
-  pub tap-none : r .gaps ≡ s .gaps → p .across ≤ r .pixel → (s .state < older) ⊎ (s .row < upper) → Picked (TapTo s y X) f p (s .gaps) t r
-  tap-none eg off l =
-      picked-none (TapTo s y X) f p (s .gaps) t r eg off
-      (λ e m x d h. ⊎-elim (λ l. omega (arith, d .state)) (λ l. omega (arith, d .row)) l)
-
   pub tap-looked :
       older ≤ s .state → upper ≤ s .row → Picked (JustBefore (s .state - older) (s .row - upper) (s .pixel + X)) f p (s .gaps) t r →
       Picked (TapTo s y X) f p (s .gaps) t r

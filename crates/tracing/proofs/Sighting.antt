@@ -28,7 +28,8 @@ use Rattle.directions.proofs.TableLaws.{frame-told}
 use Rattle.directions.proofs.TraceLaws.{spot-known}
 use Rattle.directions.proofs.KeptLaws.{kept-line, kept-rank, inside-line, inside-rank}
 use Rattle.directions.proofs.TraceRows.{HasRow, trace-rows}
-use Rattle.directions.proofs.TracePlans.{TraceRoomy, trace-planes, trace-lines, trace-across, trace-ranked, trace-states-few, trace-steps-few, trace-formed, trace-room, trace-sequence}
+use Rattle.directions.proofs.RoomLaws.{Roomy}
+use Rattle.directions.proofs.TracePlans.{trace-planes, trace-lines, trace-across, trace-ranked, trace-states-few, trace-steps-few, trace-formed, trace-room, trace-sequence}
 use Rattle.tracing.specs.Scans.{Sound, bitOf, keyOf}
 use Rattle.tracing.specs.Sights.{Seen, seenAt}
 use Rattle.tracing.specs.declared.scan.Scan.{Scan}
@@ -97,12 +98,12 @@ module _ (s : Scan) (sound : Sound s) (backwards : Bool) (x : ℕ) (r : Sight) (
   pub sight-sound : SoundPlan (r .plan)
   sight-sound = well-formed-sound (r .plan) sight-formed
 
-  pub sight-room : (room : ℕ) → 4 * (s .setting .gaps + 1) * (s .width * s .height) ≤ room → TraceRoomy (r .plan) room
+  pub sight-room : (room : ℕ) → 4 * (s .setting .gaps + 1) * (s .width * s .height) ≤ room → Roomy (r .plan) room
   sight-room room h =
       rw (seen .is-plan)
       (trace-room (r .frame) (s .width) (s .height) (s .index) (seen .framed) (seen .of) rows back (s .steps + 1) (s .setting .gaps + 1) (seen .spot) x
       (seen .is-spot)
-      (omega arith) (omega (arith, sound .few)) (omega arith) room (rw (seen .framed .area) h))
+      (omega arith) (omega (arith, sound .few)) (omega arith) (omega (arith, sound .few-steps)) room (rw (seen .framed .area) h))
 
   pub sight-states-few : r .states ≤ 1024
   sight-states-few =

@@ -16,7 +16,7 @@ use Rattle.plans.specs.declared.plan.Plan.{Plan}
 use Rattle.sweeps.specs.declared.stack.Stack.{Stack}
 use Rattle.directions.specs.Doors.{Laid}
 use Rattle.directions.specs.Numbers.{numberAt, placeKept}
-use Rattle.directions.proofs.TracePlans.{TraceRoomy}
+use Rattle.directions.proofs.RoomLaws.{Roomy}
 use Rattle.tracing.specs.Scans.{Sound, bitOf, keyOf}
 use Rattle.tracing.specs.Sights.{Seen, seenAt}
 use Rattle.tracing.specs.Following.{Leads, Within, Trail, indexAfter, lowAlong, Tells, storedAt, Picked, OfSteps, StepTo, Stands, Kept}
@@ -50,7 +50,7 @@ module _ (s : Scan) (b : Bool) (plate : List ℤ) (x : ℕ) (r : Sight) (sound :
   -- before the first state is made
   module _ (old work marks : List ℕ) (stack : Stack) (none : stack .depth ≡ 0) where
     pub empty-fits :
-        TraceRoomy (r .plan) (length work) → stack .base ≡ keysSize (r .plan) → 1 ≤ stack .places → stack .places ≤ 64 →
+        Roomy (r .plan) (length work) → stack .base ≡ keysSize (r .plan) → 1 ≤ stack .places → stack .places ≤ 64 →
         stack .places * stateSize (r .plan) ≤ length work - stack .base → stack .places ≤ length marks → StackFits (r .plan) stack (length work) (length marks)
     empty-fits room is-base some few inside in-marks =
         record {

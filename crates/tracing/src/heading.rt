@@ -1,3 +1,5 @@
+// A direction as it is walked from the picked pixel: how far a pixel stands along it, how many steps lead on, and
+// where a step of the table leads.
 ghost use mathlib.Core.Path.{_≡_};
 ghost use Prim.Native.Nat.{_*_, _^_, _<_};
 ghost use Rattle.tracing.specs.Headings.{shift, Known, bitOf, roomAt, reachedAt, placeOr};

@@ -1,8 +1,9 @@
 -- `place_kept` meets its contract: its tests are those of `placeKeptBy`, in the same order.
 use mathlib.Core.Path.{sym, _∙_}
 use native.Mathlib.Omega.{arith}
-use borrow.Author.Tests.{not-true, not-false}
-use Rattle.directions.proofs.DoorLaws.{keeping, place-none, place-past, place-there}
+use borrow.Author.Tests.{not-true, not-false, le-ltb}
+use Rattle.directions.specs.Doors.{placeKeptBy}
+use Rattle.directions.proofs.DoorLaws.{keeping, place-there}
 use borrow.Author.Needs.{needs}
 use Rattle.directions.proofs.keys.place_kept.Statement.{statement}
 use Rattle.directions.proofs.keys.place_kept.Tie as tie
@@ -11,13 +12,15 @@ keeps-keys-requires : tie.Need-keeps-keys-requires
 keeps-keys-requires c κs = search needs
 
 returns : tie.Need-returns
-returns c = place-none _ _ _ _ _ (sym (c .before .keeps-keys .ensures) ∙ not-true _ (c .if1 .taken))
+unfolding placeKeptBy
+returns c = rw (sym (c .before .keeps-keys .ensures) ∙ not-true _ (c .if1 .taken))
 
 mul-if2 : tie.Need-mul-if2
 mul-if2 c = omega (arith, keeping _ _ _ _ (sym (c .before .keeps-keys .ensures) ∙ not-false _ (c .if1 .left)) .size .few)
 
 returns-2 : tie.Need-returns-2
-returns-2 c = place-past _ _ _ _ _ (sym (c .before .before .keeps-keys .ensures) ∙ not-false _ (c .before .if1 .left)) (c .if2 .taken)
+unfolding placeKeptBy
+returns-2 c = rw (sym (c .before .before .keeps-keys .ensures) ∙ not-false _ (c .before .if1 .left), le-ltb _ _ (c .if2 .taken))
 
 frame-of-requires : tie.Need-frame-of-requires
 frame-of-requires c κs = search needs

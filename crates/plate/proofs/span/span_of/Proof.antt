@@ -7,7 +7,7 @@ use mir.Val.{ofZ}
 use Rattle.plate.specs.Refusals.{badSize}
 use Rattle.plate.specs.Sizes.{GoodSize}
 use Rattle.plate.proofs.Sizes.{good-size}
-use Rattle.plate.proofs.Spans.{no-size, no-direction, span-listed, span-rows, span-columns, span-diagonal}
+use Rattle.plate.proofs.Spans.{no-size, no-direction, span-rows, span-columns, span-diagonal}
 use borrow.Author.Needs.{needs}
 use Rattle.plate.proofs.span.span_of.Statement.{statement}
 use Rattle.plate.proofs.span.span_of.Tie as tie
@@ -34,9 +34,7 @@ column-change-requires c κs = search needs
 returns-3 : tie.Need-returns-3
 returns-3 c =
     let d = c .before .before in
-    let a = d .before .before .before .args in
-    span-rows (a .width) (a .height) (a .index) (d .if2 .left) (ap (ofZ w8) (sym (c .before .column-change .ensures)) ∙ c .if3 .taken)
-    ∙ sym (span-listed _ _ _ (not-bad (d .before)) (d .if2 .left))
+    span-rows _ _ _ (not-bad (d .before)) (d .if2 .left) (ap (ofZ w8) (sym (c .before .column-change .ensures)) ∙ c .if3 .taken)
 
 row-change-requires : tie.Need-row-change-requires
 row-change-requires c κs = search needs
@@ -44,9 +42,7 @@ row-change-requires c κs = search needs
 returns-4 : tie.Need-returns-4
 returns-4 c =
     let d = c .before .before .before .before in
-    let a = d .before .before .before .args in
-    span-columns (a .width) (a .height) (a .index) (d .if2 .left) (ap (ofZ w8) (sym (c .before .row-change .ensures)) ∙ c .if4 .taken)
-    ∙ sym (span-listed _ _ _ (not-bad (d .before)) (d .if2 .left))
+    span-columns _ _ _ (not-bad (d .before)) (d .if2 .left) (ap (ofZ w8) (sym (c .before .row-change .ensures)) ∙ c .if4 .taken)
 
 add-result : tie.Need-add-result
 add-result c = let g = sized (c .before .before .before .before .before) in omega (arith, g .narrow, g .low)
@@ -57,11 +53,9 @@ sub-result c = let g = sized (c .before .before .before .before .before) in omeg
 returns-5 : tie.Need-returns-5
 returns-5 c =
     let d = c .before .before .before .before in
-    let a = d .before .before .before .args in
-    span-diagonal (a .width) (a .height) (a .index) (d .if2 .left)
+    span-diagonal _ _ _ (not-bad (d .before)) (d .if2 .left)
     (λ e. c .before .before .if3 .left (ap (ofZ w8) (c .before .before .before .column-change .ensures) ∙ e))
     (λ e. c .if4 .left (ap (ofZ w8) (c .before .row-change .ensures) ∙ e))
-    ∙ sym (span-listed _ _ _ (not-bad (d .before)) (d .if2 .left))
 
 pub span-of-spec : {M : Type 1} → statement M
 span-of-spec =

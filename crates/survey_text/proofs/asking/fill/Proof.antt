@@ -5,8 +5,8 @@ use mathlib.Core.Path.{_≡_, refl, sym, _∙_}
 use Prim.Native.Nat.{_*_, _≤_}
 use lib.ListN.{length}
 use lib.Seq.{length-take-le}
-use Rattle.survey_text.specs.Survey.{asked}
-use Rattle.survey_text.specs.Answers.{withLists}
+use Rattle.survey_text.specs.Survey.{prepared}
+use Rattle.survey_text.specs.Within.{withLists}
 use Rattle.survey_text.proofs.Requests.{judged-refused, filled}
 use Rattle.survey_text.proofs.asking.fill.Statement.{statement}
 use Rattle.survey_text.proofs.asking.fill.Tie as tie
@@ -28,7 +28,7 @@ returns : tie.Need-returns
 returns c = let j = c .before .before in
     let t = c .enum-told2 .given .1 in
     let b = j .before .before .before in
-    rw (t, judged-refused (b .args .head) (asked (withLists (b .args .head) (b .args .readings .now) (b .args .words .now))) _ _ (sym t ∙ j .judge .ensures)) (refl, refl)
+    rw (t, judged-refused (b .args .head) (prepared (withLists (b .args .head) (b .args .readings .now) (b .args .words .now))) _ _ (sym t ∙ j .judge .ensures)) (refl, refl)
 
 mul-n : tie.Need-mul-n
 mul-n c = search needs

@@ -7,7 +7,7 @@ use lib.IntN.{ℤ, pos}
 use lib.ListN.{length, take, replicate}
 use lib.Seq.{length-take-le}
 use Rattle.survey_text.specs.Reading.{PlateText}
-use Rattle.survey_text.specs.Answers.{withLists}
+use Rattle.survey_text.specs.Within.{withLists}
 use Rattle.survey_text.proofs.Requests.{not-corrected, not-set, passed}
 use Rattle.survey_text.proofs.asking.judge.Statement.{statement}
 use Rattle.survey_text.proofs.asking.judge.Tie as tie

@@ -7,7 +7,7 @@ use lib.ListN.{length, take}
 use lib.Seq.{length-take-le}
 use Rattle.plate.specs.Refusals.{Verdict.accepted}
 use Rattle.survey_text.specs.Reading.{maxPlate, reading}
-use Rattle.survey_text.specs.Answers.{withLists}
+use Rattle.survey_text.specs.Within.{withLists}
 use Rattle.survey_text.proofs.Heads.{reading-sized}
 use Rattle.survey_text.proofs.Requests.{unread, read}
 use Rattle.survey_text.proofs.asking.request.Statement.{statement}
