@@ -11,6 +11,5 @@ mod reading;
 
 pub use asking::request;
 pub use reading::Header;
-pub use reading::MAX_BYTES;
 pub use reading::MAX_PLATE;
 pub use reading::Reading;

@@ -15,7 +15,7 @@ use plate::Setting;
 use plate::refusal;
 
 // The longest text, in bytes, and the largest plate, in pixels, of the program.
-pub const MAX_BYTES: usize = 16384;
+const MAX_BYTES: usize = 16384;
 
 pub const MAX_PLATE: usize = 512;
 
@@ -41,6 +41,7 @@ pub struct Header {
     pub at: usize,
 }
 
+// What a text says, or its refusal.
 pub enum Reading {
     Plate(Header),
     Refused { number: usize, place: usize },
@@ -48,8 +49,8 @@ pub enum Reading {
 
 // The first line, unless the text is too long.
 fn open(s: &[u8]) -> Cursor
-    ensures { λ r. ⌜ Counted r ⌝ }
     ensures { λ r. ⌜ stands (now (s .entry)) r ≡ opening (now (s .entry)) ⌝ }
+    ensures { λ r. ⌜ Counted r ⌝ }
 {
     if s.len() > MAX_BYTES {
         return Cursor {
@@ -107,6 +108,7 @@ fn judge_size(width: usize, height: usize, c: Cursor) -> SizeLines
     }
 }
 
+// The lines up to `height=`, and what becomes of the size.
 fn size_lines(s: &[u8], c: Cursor) -> SizeLines
     requires { ⌜ Counted c ⌝ }
     ensures { λ r. ⌜ r .width * r .height ≤ maxPlate ⌝ }
@@ -118,6 +120,7 @@ fn size_lines(s: &[u8], c: Cursor) -> SizeLines
     judge_size(width.value, height.value, height.next)
 }
 
+// The lines from `length=` to `at=`. Each step goes on where the last one stopped.
 fn setting_lines(s: &[u8], c: Cursor) -> SettingLines
     requires { ⌜ Counted c ⌝ }
     ensures { λ r. ⌜ Step (now (s .entry)) c settingLines (r .setting, r .at) (r .next) ⌝ }

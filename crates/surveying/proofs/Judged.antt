@@ -1,51 +1,23 @@
 -- The checks of the filter and of the trace, for a survey that passed reading, correction and setting: the filter is accepted, and of the trace's
--- checks those of the place and of the path are left. A path has no more pixels than the plate, so that a longer one crosses no pixel.
-use Prim.Native.Nat.{ℕ, zero, suc, _+_, _-_, _*_, _≤_, _<_}
+-- checks those of the place and of the path are left.
+use Prim.Native.Nat.{ℕ, _+_, _*_, _≤_}
 use mathlib.Core.Path.{_≡_, refl, sym, _∙_}
-use mathlib.Core.Bool.{Bool, true, false, cond, not}
-use mathlib.Core.List.{List, [], _∷_}
-use mathlib.Core.Logic.{⊎-elim}
-use native.Mathlib.Nat.{suc-mul, mul-comm, mul-le-mul-right, mul-assoc}
+use mathlib.Core.List.{[], _∷_}
+use native.Mathlib.Nat.{mul-le-mul-right}
 use native.Mathlib.Omega.{arith}
-use lib.Dec.{T, eqb, leb, ltb}
+use lib.Dec.{eqb, leb, ltb}
 use lib.IntN.{ℤ}
 use lib.ListN.{length}
 use borrow.Author.Tests.{eq-eqb, le-ltb, ltb-false}
-use Rattle.basics.proofs.Tests.{true-or-false, true-T, or-false-left}
-use Rattle.plate.specs.Limits.{maxGaps}
-use Rattle.plate.specs.Paths.{crossed, span}
+use Rattle.basics.proofs.Tests.{or-false-left, or-false-right}
+use Rattle.plate.specs.Limits.{maxGaps, maxLength}
+use Rattle.plate.specs.Paths.{crossed}
 use Rattle.plate.specs.Opening.{levelAt, filtered}
-use Rattle.plate.specs.Refusals.{Verdict, Verdict.accepted, Verdict.refused, judged, Clear, badGaps, placeCheck, pathCheck, settingChecks, settingVerdict, filterVerdict, traceVerdict}
-use Rattle.plate.specs.Answers.{answered, resultAfter}
-use Rattle.plate.specs.declared.answer.Answer.{Answer}
-use Rattle.plate.specs.declared.answer.Answer.the-variants.{Done, Refused}
+use Rattle.plate.specs.Refusals.{Verdict, Verdict.accepted, judged, Clear, badLength, badGaps, placeCheck, pathCheck, settingChecks, settingVerdict, filterVerdict, traceVerdict}
 use Rattle.plate.specs.declared.setting.Setting.{Setting}
-use Rattle.plate.proofs.Sizes.{good-size}
-use Rattle.plate.proofs.Verdicts.{clear-accepted, accepted-clear}
-use Rattle.theory.proofs.Span.{crossed-spans}
+use Rattle.plate.proofs.Verdicts.{accepted-clear}
 use Rattle.survey_text.specs.Survey.{Survey, traced}
-use Rattle.surveying.specs.Steps.{maxWork, Fitting, Ready}
-
--- a call whose verdict is acceptance is done, and its result is the new one
-pub done-result : (r : Answer) (new old : List ℤ) → answered r ≡ accepted tt → resultAfter r new old ≡ new
-done-result Done new old e = refl
-done-result (Refused n p) new old e = absurd (let z : _≡_ {A = ℕ} 0 1 = cc in omega arith)
-
--- W + H − 1 is at most W × H
-sides : (W H : ℕ) → 1 ≤ W → 1 ≤ H → W + H ≤ 1 + W * H
-sides zero H w h = absurd (omega arith)
-sides (suc a) H w h = omega (arith, suc-mul a H, mul-comm a H, mul-le-mul-right a h)
-
-cond-within : (a b : Bool) (x y z n : ℕ) → x ≤ n → y ≤ n → z ≤ n → cond a x (cond b y z) ≤ n
-cond-within true b x y z n h k l = h
-cond-within false true x y z n h k l = k
-cond-within false false x y z n h k l = l
-
-span-within : (W H bit : ℕ) → 1 ≤ W → 1 ≤ H → span W H bit ≤ W * H
-unfolding span
-span-within W H bit w h =
-    let m = sides W H w h in
-    cond-within (eqb bit 1) (eqb bit 2) H W (W + H - 1) (W * H) (omega arith) (omega arith) (omega arith)
+use Rattle.surveying.specs.Steps.{maxWork, Ready}
 
 module _ (v : Survey) (ready : Ready v) where
   abbrev W : ℕ
@@ -64,6 +36,11 @@ module _ (v : Survey) (ready : Ready v) where
   few-gaps : s .gaps ≤ 8
   unfolding badGaps
   few-gaps = ltb-false maxGaps (s .gaps) (or-false-left (ltb maxGaps (s .gaps)) (leb (s .length) (s .gaps)) (setting-clear .1 .0))
+
+  -- the path buffer is enough for each length
+  pub length-few : s .length ≤ maxLength
+  unfolding badLength
+  length-few = ltb-false maxLength (s .length) (or-false-right (eqb (s .length) 0) (ltb maxLength (s .length)) (setting-clear .0))
 
   -- the work buffer for the largest plate is enough for each
   pub work-enough : 4 * (s .gaps + 1) * (W * H) ≤ maxWork
@@ -111,18 +88,3 @@ module _ (v : Survey) (ready : Ready v) where
   pub trace-judged : (room work : ℕ) → room ≡ s .length → maxWork ≤ work → traceVerdict W H s (v .levels) (v .at) room work ≡ traced v
   trace-judged room work e l =
       trace-left room work e (omega (arith, work-enough)) ∙ sym (trace-left (s .length) (4 * (s .gaps + 1) * (W * H)) refl (omega arith))
-
-  -- a path longer than the plate has pixels
-  module _ (long : W * H < s .length) where
-    uncrossed : crossed W H (s .directions) (s .length) (v .at) ≡ false
-    uncrossed =
-        let size = good-size W H (ready .fitting .good) in
-        ⊎-elim
-        (λ t. let p = crossed-spans W H (s .directions) (s .length) (v .at) (true-T _ t) in
-        absurd (omega (arith, p .long, span-within W H (p .bit) (size .wide) (size .high))))
-        (λ t. t)
-        (true-or-false (crossed W H (s .directions) (s .length) (v .at)))
-
-    pub traced-long : traced v ≡ cond (leb (W * H) (v .at)) (refused 11 0) (refused 12 0)
-    unfolding judged
-    traced-long = trace-left (s .length) (4 * (s .gaps + 1) * (W * H)) refl (omega arith) ∙ rw uncrossed

@@ -100,7 +100,7 @@ out-length W H f h o w k s =
 
 -- ---- the trace
 
-pub trace-length : (way : ℕ) (level : ℤ) (path : List ℕ) → way < 2 ^ 64 → mag level < 32768 → ((i : ℕ) → i < length path → getD path i 0 < 100000) → length path ≤ 513 →
+pub trace-length : (way : ℕ) (level : ℤ) (path : List ℕ) → way < 2 ^ 64 → mag level < 32768 → ((i : ℕ) → i < length path → getD path i 0 < 100000) → length path ≤ 1024 →
     length (traceText way level path) ≤ maxTrace
 unfolding traceText levelLine pathLine
 trace-length way level path w m h n =

@@ -1,13 +1,11 @@
 -- Cited by the contracts of private functions alone: what a survey has to fulfil before the filter and the trace, and what was written of its answer.
 use Prim.Native.Nat.{ℕ, _+_, _*_, _≤_, _<_}
 use mathlib.Core.Path.{_≡_}
-use mathlib.Core.Bool.{cond, false}
+use mathlib.Core.Bool.{false}
 use mathlib.Core.List.{List}
-use lib.Dec.{leb}
 use lib.IntN.{ℤ, pos}
 use lib.ListN.{length, getD}
 use lib.Signed.{mag}
-use Rattle.plate.specs.RefusalNumbers.{refusalPlace, refusalNoPath}
 use Rattle.plate.specs.Refusals.{Verdict, Verdict.accepted, badSize, settingVerdict}
 use Rattle.plate.specs.declared.answer.Traced.{Traced}
 use Rattle.plate.specs.declared.answer.Traced.the-variants.{Path, Refused as Untraced}
@@ -28,7 +26,7 @@ abbrev pub maxOut : ℕ
 maxOut = 6169
 
 abbrev pub maxTrace : ℕ
-maxTrace = 3122
+maxTrace = 6188
 
 abbrev pub maxRefusal : ℕ
 maxRefusal = 56
@@ -62,10 +60,6 @@ tracedText (Untraced number place) path = refusalText number place
 abbrev pub OnPlate : Traced → List ℕ → Type 0
 OnPlate (Path way level) path = (i : ℕ) → i < length path → getD path i 0 < maxPlate
 OnPlate (Untraced number place) path = Unit
-
--- the lines where no path is long enough
-abbrev pub pathless : Header → List ℕ
-pathless h = cond (leb (h .width * h .height) (h .at)) (refusalText refusalPlace 0) (refusalText refusalNoPath 0)
 
 -- a text of at most so many bytes was written at a place of the buffer
 pub record WrittenShort (text : List ℕ) (most at : ℕ) (before after : List ℕ) (next : ℕ) : Type 0 where

@@ -7,12 +7,14 @@
 ghost use mathlib.Core.Path.{_≡_};
 ghost use Prim.Native.Nat.{_≤_};
 ghost use lib.ListN.{length};
+ghost use Rattle.plate.specs.Limits.{maxLength};
 ghost use Rattle.survey_text.specs.Reading.{maxPlate};
 ghost use Rattle.surveying.specs.Surveying.{maxOutput, Surveyed};
 ghost use Rattle.surveying.specs.Steps.{maxWork, asked, Ready, SurveyWritten};
 use crate::printing::print_plate;
 use crate::printing::print_refusal;
 use crate::traced::write_trace;
+use plate::Setting;
 use survey_text::Header;
 use survey_text::MAX_PLATE;
 use survey_text::Reading;
@@ -42,19 +44,25 @@ pub fn survey(text: &[u8], out: &mut [u8; MAX_OUTPUT]) -> usize
     }
 }
 
-// The answer to a survey that passed the checks of its text; the buffers of the largest plate.
+// The answer to a survey that passed the checks of its text; the buffers are enough for every one.
 fn answer(head: Header, levels: &[i16], out: &mut [u8]) -> usize
     requires { ⌜ Ready (asked head (now levels)) ⌝ }
     requires { ⌜ maxOutput ≤ length (now out) ⌝ }
     ensures { λ r. ⌜ SurveyWritten (asked head (now (levels .entry))) (now (out .entry)) (now (out .exit)) r ⌝ }
 {
     let mut result = [0i16; MAX_PLATE];
-    let mut path = [0usize; MAX_PLATE];
+    let mut path = path_buffer();
     let mut work = work_buffer();
     write_answer(head, levels, &mut result, &mut path, &mut work, out)
 }
 
-// What is in it before the first use is free, so that its length is all that is said.
+// What is in these two before their first use is free, so that their lengths are all that is said.
+fn path_buffer() -> [usize; Setting::MAX_LENGTH]
+    ensures { λ r. ⌜ maxLength ≡ length r ⌝ }
+{
+    [0; Setting::MAX_LENGTH]
+}
+
 fn work_buffer() -> [u16; MAX_WORK]
     ensures { λ r. ⌜ maxWork ≡ length r ⌝ }
 {
@@ -72,7 +80,7 @@ fn write_answer(
 ) -> usize
     requires { ⌜ Ready (asked head (now levels)) ⌝ }
     requires { ⌜ maxPlate ≤ length (now result) ⌝ }
-    requires { ⌜ maxPlate ≤ length (now path) ⌝ }
+    requires { ⌜ maxLength ≤ length (now path) ⌝ }
     requires { ⌜ maxWork ≤ length (now work) ⌝ }
     requires { ⌜ maxOutput ≤ length (now out) ⌝ }
     ensures { λ r. ⌜ SurveyWritten (asked head (now (levels .entry))) (now (out .entry)) (now (out .exit)) r ⌝ }

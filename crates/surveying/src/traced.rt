@@ -1,18 +1,15 @@
 // The trace's lines of the answer: those of the path that was found, or those of its refusal.
 ghost use mathlib.Core.Path.{_≡_};
-ghost use Prim.Native.Nat.{_+_, _*_, _≤_, _<_};
+ghost use Prim.Native.Nat.{_+_, _≤_};
 ghost use lib.ListN.{length};
-ghost use Rattle.survey_text.specs.Reading.{maxPlate};
-ghost use Rattle.surveying.specs.Steps.{maxWork, maxTrace, asked, Ready, OnPlate, tracedText, pathless, WrittenShort, TraceWritten};
+ghost use Rattle.plate.specs.Limits.{maxLength};
+ghost use Rattle.surveying.specs.Steps.{maxWork, maxTrace, asked, Ready, OnPlate, tracedText, WrittenShort, TraceWritten};
 use crate::printing::print_refusal;
 use crate::printing::print_trace;
 use plate::Traced;
-use plate::refusal;
 use survey_text::Header;
-use survey_text::MAX_PLATE;
 
-// The trace's lines, or those of its refusal. A path has no pixel twice, so that it is never longer
-// than the largest plate: a longer one is refused without a buffer for it.
+// The trace's lines, or those of its refusal.
 pub(crate) fn write_trace(
     head: Header,
     levels: &[i16],
@@ -22,15 +19,12 @@ pub(crate) fn write_trace(
     at: usize,
 ) -> usize
     requires { ⌜ Ready (asked head (now levels)) ⌝ }
-    requires { ⌜ maxPlate ≤ length (now path) ⌝ }
+    requires { ⌜ maxLength ≤ length (now path) ⌝ }
     requires { ⌜ maxWork ≤ length (now work) ⌝ }
     requires { ⌜ at + maxTrace ≤ length (now out) ⌝ }
     ensures { λ r. ⌜ TraceWritten (asked head (now (levels .entry))) at (now (out .entry)) (now (out .exit)) r ⌝ }
 {
     let length = head.setting.length;
-    if length > MAX_PLATE {
-        return write_no_path(head, out, at);
-    }
     let traced = tracing::trace(
         head.width,
         head.height,
@@ -45,7 +39,7 @@ pub(crate) fn write_trace(
 
 // What a trace answered, with the path that it left in its buffer.
 fn write_traced(traced: Traced, path: &[usize], out: &mut [u8], at: usize) -> usize
-    requires { ⌜ length (now path) ≤ maxPlate ⌝ }
+    requires { ⌜ length (now path) ≤ maxLength ⌝ }
     requires { ⌜ OnPlate traced (now path) ⌝ }
     requires { ⌜ at + maxTrace ≤ length (now out) ⌝ }
     ensures { λ r. ⌜ WrittenShort (tracedText traced (now (path .entry))) maxTrace at (now (out .entry)) (now (out .exit)) r ⌝ }
@@ -54,16 +48,4 @@ fn write_traced(traced: Traced, path: &[usize], out: &mut [u8], at: usize) -> us
         Traced::Path { direction, level } => { print_trace(direction, level, path, out, at) }
         Traced::Refused { number, place } => print_refusal(number, place, out, at),
     }
-}
-
-// The refusal of a path that is longer than any: the place is judged before it.
-fn write_no_path(head: Header, out: &mut [u8], at: usize) -> usize
-    requires { ⌜ head .width * head .height ≤ maxPlate ⌝ }
-    requires { ⌜ at + maxTrace ≤ length (now out) ⌝ }
-    ensures { λ r. ⌜ WrittenShort (pathless head) maxTrace at (now (out .entry)) (now (out .exit)) r ⌝ }
-{
-    if head.at >= head.width * head.height {
-        return print_refusal(refusal::PLACE, 0, out, at);
-    }
-    print_refusal(refusal::NO_PATH, 0, out, at)
 }

@@ -2,7 +2,7 @@
 -- passes. Said of any numbers, so that no term is large.
 use Prim.Native.Nat.{ℕ, _+_, _-_, _*_, _≤_, _<_}
 use mathlib.Core.Path.{_≡_, refl, sym, ap, _∙_}
-use mathlib.Core.Bool.{Bool, true, false, cond, not, _&&_}
+use mathlib.Core.Bool.{Bool, true, false, _&&_}
 use native.Mathlib.Nat.{mul-le-mul}
 use native.Mathlib.Omega.{arith}
 use lib.Dec.{leb, ltb}
@@ -16,7 +16,7 @@ use Rattle.plans.proofs.FormTests.{orders-ranked, orders-lines}
 use Rattle.states.specs.Doors.{canHold}
 use Rattle.states.proofs.DoorTests.{Held, hold-if, state-few}
 use Rattle.sweeps.specs.Stacks.{StackFits}
-use Rattle.sweeps.specs.Doors.{statesOf, otherEnd, roomFor, sweepable, stackFits, fetches, hasTop, topOf}
+use Rattle.sweeps.specs.Doors.{statesOf, recounted, otherEnd, roomFor, sweepable, stackFits, fetches, hasTop, topOf}
 use Rattle.sweeps.specs.declared.stack.Stack.{Stack}
 
 -- ---- the parts of a sweep
@@ -34,50 +34,8 @@ module _ (p : Plan) where
   pub origin-lines : p .back ≡ false → p .ranked ≡ false → p .bottom - 1 ≡ otherEnd p (p .reach) .origin
   origin-lines a b = rw (a, b) refl
 
-  pub other-is : (reach : Reach) (origin : ℕ) → origin ≡ otherEnd p reach .origin →
-      record {
-        planes = p .planes;
-        lines = p .lines;
-        across = p .across;
-        rows = p .rows;
-        orders = p .orders;
-        origin = origin;
-        back = not (p .back);
-        still = p .still;
-        ranked = p .ranked;
-        top = p .top;
-        bottom = p .bottom;
-        left = p .left;
-        right = p .right;
-        linked = p .linked;
-        lone = p .lone;
-        pixel = p .pixel;
-        reach = reach;
-      }
-      ≡ otherEnd p reach
-  other-is reach origin e =
-      ap
-      (λ (o : ℕ).
-      record {
-        planes = p .planes;
-        lines = p .lines;
-        across = p .across;
-        rows = p .rows;
-        orders = p .orders;
-        origin = o;
-        back = not (p .back);
-        still = p .still;
-        ranked = p .ranked;
-        top = p .top;
-        bottom = p .bottom;
-        left = p .left;
-        right = p .right;
-        linked = p .linked;
-        lone = p .lone;
-        pixel = p .pixel;
-        reach = reach;
-      })
-      e
+  pub other-is : (reach : Reach) (origin : ℕ) → origin ≡ otherEnd p reach .origin → recounted p reach origin ≡ otherEnd p reach
+  other-is reach origin e = ap (recounted p reach) e
 
   -- as many lines and ranks as a plate has
   pub orders-few : Formed p → p .orders ≤ 2048

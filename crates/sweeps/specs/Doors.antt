@@ -16,16 +16,16 @@ use Rattle.sweeps.specs.declared.stack.Stack.{Stack}
 unfoldable pub statesOf : Plan → ℕ
 statesOf p = cond (p .still) (p .orders) (p .orders + 1 - p .rows)
 
--- the same rows counted from the other end, with steps that lead back
-abbrev pub otherEnd : Plan → Reach → Plan
-otherEnd p reach =
+-- the same rows counted the other way from a line or rank, with these steps
+abbrev pub recounted : Plan → Reach → ℕ → Plan
+recounted p reach origin =
     record {
       planes = p .planes;
       lines = p .lines;
       across = p .across;
       rows = p .rows;
       orders = p .orders;
-      origin = cond (p .back) (cond (p .ranked) (p .top + p .left) (p .top)) (cond (p .ranked) (p .bottom + p .right - 2) (p .bottom - 1));
+      origin = origin;
       back = not (p .back);
       still = p .still;
       ranked = p .ranked;
@@ -38,6 +38,11 @@ otherEnd p reach =
       pixel = p .pixel;
       reach = reach;
     }
+
+-- the same rows counted from the other end, with steps that lead back
+abbrev pub otherEnd : Plan → Reach → Plan
+otherEnd p reach =
+    recounted p reach (cond (p .back) (cond (p .ranked) (p .top + p .left) (p .top)) (cond (p .ranked) (p .bottom + p .right - 2) (p .bottom - 1)))
 
 -- one state finds room behind the keys, or two where a state is made of the last one too
 unfoldable pub roomFor : Plan → ℕ

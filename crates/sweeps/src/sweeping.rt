@@ -16,7 +16,7 @@ use crate::taken::advance_joined;
 use plans::Plan;
 
 // How many states find room, but for one, up to 64.
-fn places_in(room: usize, size: usize) -> usize
+fn states_fitting(room: usize, size: usize) -> usize
     requires { ⌜ (1 ≤ size) × (2 * size ≤ room) ⌝ }
     ensures { λ r. ⌜ (1 ≤ r) × (r ≤ 64) × (r * size + size ≤ room) ⌝ }
 {
@@ -71,7 +71,7 @@ fn sweep_linked(
 {
     let base = plan.lines * plan.across;
     let size = plan.rows * (plan.planes * plan.across);
-    let places = places_in(work.len() - base, size);
+    let places = states_fitting(work.len() - base, size);
     let ends = base + places * size;
     let mut marks = [0usize; 64];
     let mut stack = Stack {

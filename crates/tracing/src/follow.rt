@@ -249,7 +249,7 @@ fn nearer(work: &[u16], base: usize, plan: Plan, stand: Stand, t: u16) -> Stand
 }
 
 // How many states find room, up to 64.
-fn places_in(room: usize, size: usize) -> usize
+fn states_fitting(room: usize, size: usize) -> usize
     requires { ⌜ (1 ≤ size) × (size ≤ room) ⌝ }
     ensures { λ r. ⌜ (1 ≤ r) × (r ≤ 64) × (r * size ≤ room) ⌝ }
 {
@@ -353,7 +353,7 @@ fn follow_counted(
     let base = plan.lines * plan.across;
     let empty = Stack {
         base: base,
-        places: places_in(work.len() - base, plan.rows * (plan.planes * plan.across)),
+        places: states_fitting(work.len() - base, plan.rows * (plan.planes * plan.across)),
         depth: 0,
     };
     let stack = fetch(

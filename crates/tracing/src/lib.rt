@@ -24,7 +24,7 @@ mod sight;
 mod taken;
 mod usable;
 
-use crate::shown::show;
+use crate::shown::find_and_draw;
 use crate::usable::first_usable;
 use plate::Answer;
 use plate::Fills;
@@ -74,5 +74,5 @@ pub fn trace(
             place: 0,
         };
     }
-    show(width, height, plate, setting, at, first, path, work)
+    find_and_draw(width, height, plate, setting, at, first, path, work)
 }

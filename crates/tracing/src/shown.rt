@@ -15,7 +15,7 @@ use plate::Setting;
 use plate::Traced;
 
 // Finds the best path through the pixel x and draws it.
-pub(crate) fn show(
+pub(crate) fn find_and_draw(
     width: usize,
     height: usize,
     plate: &[i16],

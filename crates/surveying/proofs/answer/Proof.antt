@@ -4,6 +4,9 @@ use borrow.Author.Needs.{needs}
 use Rattle.surveying.proofs.answer.Statement.{statement}
 use Rattle.surveying.proofs.answer.Tie as tie
 
+path-buffer-requires : tie.Need-path-buffer-requires
+path-buffer-requires c κs = search needs
+
 work-buffer-requires : tie.Need-work-buffer-requires
 work-buffer-requires c κs = search needs
 
@@ -18,8 +21,9 @@ slice-aggregate-write-answer-3 c = search needs
 
 write-answer-requires : tie.Need-write-answer-requires
 write-answer-requires c κs = let w = c .before .before .before .before in
-    let b = w .before .before in
-    (b .pre .0, (omega arith, (omega arith, (omega (arith, w .work-buffer .ensures), b .pre .1))))
+    let p = w .before in
+    let b = p .before .before in
+    (b .pre .0, (omega arith, (omega (arith, p .path-buffer .ensures), (omega (arith, w .work-buffer .ensures), b .pre .1))))
 
 same-length : tie.Need-same-length
 same-length c = search needs
@@ -31,6 +35,7 @@ pub answer-spec : {M : Type 1} → statement M
 answer-spec =
     tie.close
     (tie.spec
+    path-buffer-requires
     work-buffer-requires
     slice-aggregate-write-answer
     slice-aggregate-write-answer-2

@@ -8,10 +8,11 @@ use Rattle.plate.specs.Refusals.{Verdict.accepted}
 use Rattle.plate.specs.Answers.{answered}
 use Rattle.theory.proofs.Mirror.{filtered-length}
 use Rattle.survey_text.specs.Survey.{Survey, filteredPlate}
+use Rattle.survey_text.proofs.Verdicts.{done-result}
 use Rattle.survey_text.specs.Printing.{outText}
 use Rattle.surveying.specs.Steps.{maxOut, Fitting, asked}
 use Rattle.surveying.proofs.Filtered.{filtered-bits}
-use Rattle.surveying.proofs.Judged.{done-result, filter-accepted}
+use Rattle.surveying.proofs.Judged.{filter-accepted}
 use Rattle.surveying.proofs.Answers.{plate-short, short-room, survey-lines}
 use lib.ListN.{length, take, drop}
 use lib.Seq.{take-at, length-take-le}

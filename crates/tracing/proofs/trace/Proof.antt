@@ -53,8 +53,8 @@ returns-3 c =
     let t = c .before .before .before in
     (refused-no-path _ _ _ _ _ _ _ (call t) (on t (c .before .before .if1 .left)) _ (c .before .first-usable .ensures) (c .if2 .taken), (refl, refl))
 
-show-requires : tie.Need-show-requires
-show-requires c κs =
+find-and-draw-requires : tie.Need-find-and-draw-requires
+find-and-draw-requires c κs =
     let t = c .before .before .before .before .before in
     let u = c .before .before .before .first-usable in
     let l = c .before .before .if2 .left in
@@ -70,7 +70,7 @@ returns-4 : tie.Need-returns-4
 returns-4 c =
     let t = c .before .before .before .before .before .before .before .before .before .before in
     let u = c .before .before .before .before .before .before .before .before .first-usable in
-    let v = c .before .before .before .before .show in
+    let v = c .before .before .before .before .find-and-draw in
     let n = all-clear _ _ _ (start t .args .plate .now) _ _ _ (call t) (on t (c .before .before .before .before .before .before .before .before .before .if1 .left)) (u .result) (u .ensures) (c .before .before .before .before .before .before .before .if2 .left) in
     (v .ensures .0 ∙ all-passed _ _ _ (start t .args .plate .now) _ _ _ n, v .ensures .1)
 
@@ -85,7 +85,7 @@ trace-spec =
     returns-2
     first-usable-requires
     returns-3
-    show-requires
+    find-and-draw-requires
     same-length
     same-length-2
     returns-4)

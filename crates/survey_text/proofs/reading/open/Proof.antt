@@ -10,11 +10,11 @@ use Rattle.survey_text.proofs.reading.open.Tie as tie
 
 returns : tie.Need-returns
 unfolding opening judged stands
-returns c = (record { few = omega arith }, rw (lt-ltb _ _ (c .if1 .taken)))
+returns c = (rw (lt-ltb _ _ (c .if1 .taken)), record { few = omega arith })
 
 returns-2 : tie.Need-returns-2
 unfolding opening judged stands
-returns-2 c = (record { few = omega arith }, rw (le-ltb _ _ (c .if1 .left)))
+returns-2 c = (rw (le-ltb _ _ (c .if1 .left)), record { few = omega arith })
 
 pub open-spec : {M : Type 1} → statement M
 open-spec = tie.close (tie.spec returns returns-2)

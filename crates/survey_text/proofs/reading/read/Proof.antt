@@ -36,7 +36,7 @@ whole : (p : tie.After-plate-lines) → let g = p .before .before .before .befor
       readings = p .plate-lines .last .1 .1 .1 .1 .0;
       words = p .plate-lines .last .1 .1 .1 .1 .1 .0;
     })) ≡ reading (g .before .before .before .before .before .before .args .s .now)
-whole p = let g = p .before .before .before .before in stages (g .before .before .open .ensures .1) (g .before .size-lines .ensures .1) (g .setting-lines .ensures) (p .plate-lines .ensures)
+whole p = let g = p .before .before .before .before in stages (g .before .before .open .ensures .0) (g .before .size-lines .ensures .1) (g .setting-lines .ensures) (p .plate-lines .ensures)
 
 open-requires : tie.Need-open-requires
 open-requires c κs = search needs

@@ -32,20 +32,20 @@ mul-size c = let s = c .before .before .before .before .before .before in omega 
 mul-size-2 : tie.Need-mul-size-2 Inv-loop μ-loop
 mul-size-2 c = let s = c .before .before .before .before .before .before .before in omega (arith, state-below (s .args .plan) (well-formed-sound _ (s .pre .0 .0)))
 
-sub-places-in : tie.Need-sub-places-in Inv-loop μ-loop
-sub-places-in c = let s = c .before .before .before .before .before .before .before in omega (arith, s .pre .1 .1 .0 .0)
+sub-states-fitting : tie.Need-sub-states-fitting Inv-loop μ-loop
+sub-states-fitting c = let s = c .before .before .before .before .before .before .before in omega (arith, s .pre .1 .1 .0 .0)
 
-places-in-requires : tie.Need-places-in-requires Inv-loop μ-loop
-places-in-requires c κs = let s = c .before .before .before .before .before .before .before in (some-size (s .args .plan) (well-formed-sound _ (s .pre .0 .0)), omega (arith, s .pre .1 .1 .0 .0))
+states-fitting-requires : tie.Need-states-fitting-requires Inv-loop μ-loop
+states-fitting-requires c κs = let s = c .before .before .before .before .before .before .before in (some-size (s .args .plan) (well-formed-sound _ (s .pre .0 .0)), omega (arith, s .pre .1 .1 .0 .0))
 
 mul-ends : tie.Need-mul-ends Inv-loop μ-loop
 mul-ends c =
-    let s = c .before .before .before .before .before .before .before .before in omega (arith, states-below (s .args .plan) (c .places-in .result) (well-formed-sound _ (s .pre .0 .0)) (c .places-in .ensures .1))
+    let s = c .before .before .before .before .before .before .before .before in omega (arith, states-below (s .args .plan) (c .states-fitting .result) (well-formed-sound _ (s .pre .0 .0)) (c .states-fitting .ensures .1))
 
 add-ends : tie.Need-add-ends Inv-loop μ-loop
 add-ends c =
     let s = c .before .before .before .before .before .before .before .before in
-    omega (arith, well-formed-sound _ (s .pre .0 .0) .few-pixels, states-below (s .args .plan) (c .places-in .result) (well-formed-sound _ (s .pre .0 .0)) (c .places-in .ensures .1))
+    omega (arith, well-formed-sound _ (s .pre .0 .0) .few-pixels, states-below (s .args .plan) (c .states-fitting .result) (well-formed-sound _ (s .pre .0 .0)) (c .states-fitting .ensures .1))
 
 loop-holds : tie.Need-loop-holds Inv-loop μ-loop
 loop-holds c =
@@ -67,7 +67,7 @@ advance-requires c κs =
     let o = s .pre .1 .0 in
     let l = c .before .before .before .before .loop in
     let i = l .inv in
-    let n = c .before .before .before .before .before .places-in in
+    let n = c .before .before .before .before .before .states-fitting in
     let clear : keysSize (a .other) ≤ keysSize (a .plan) + n .result * stateSize (a .plan) = omega (arith, same-keys (a .plan) (a .other) (a .states) o) in
     let fits : keysSize (a .plan) + n .result * stateSize (a .plan) + stateSize (a .other) ≤ length (l .work) =
     omega (arith, same-size (a .plan) (a .other) (a .states) o, i .1, n .ensures .2, s .pre .1 .1 .0 .0) in (
@@ -103,7 +103,7 @@ fetch-requires c κs =
     let a = s .args in
     let l = c15 .loop in
     let i = l .inv in
-    let n = c16 .places-in in
+    let n = c16 .states-fitting in
     let v = c10 .advance in
     let fits : keysSize (a .plan) + n .result * stateSize (a .plan) + stateSize (a .plan) ≤ length (v .last .0) =
     omega (arith, v .ensures .0 .apart .len, i .1, n .ensures .2, s .pre .1 .1 .0 .0) in (
@@ -129,7 +129,7 @@ top-of-requires c κs =
     let c24 = c23 .before in
     let s = c24 .before .before .before .before .before .before .before .before in
     let i = c23 .loop .inv in
-    let n = c24 .places-in in
+    let n = c24 .states-fitting in
     let f = c7 .fetch in (
       s .pre .0 .0,
       omega (arith, f .ensures .0 .2, i .5 .is-places, n .ensures .1),
@@ -149,7 +149,7 @@ advance-joined-requires c κs =
     let o = s .pre .1 .0 in
     let l = c28 .loop in
     let i = l .inv in
-    let n = c29 .places-in in
+    let n = c29 .states-fitting in
     let v = c23 .advance in
     let f = c12 .fetch in
     let t = c4 .top-of in
@@ -198,7 +198,7 @@ loop-again c =
     let a = s .args in
     let l = c35 .loop in
     let i = l .inv in
-    let n = c36 .places-in in
+    let n = c36 .states-fitting in
     let v = c30 .advance in
     let f = c19 .fetch in
     let t = c11 .top-of in
@@ -247,8 +247,8 @@ sweep-linked-spec =
     mul-base
     mul-size
     mul-size-2
-    sub-places-in
-    places-in-requires
+    sub-states-fitting
+    states-fitting-requires
     mul-ends
     add-ends
     loop-holds

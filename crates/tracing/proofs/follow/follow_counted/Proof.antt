@@ -21,16 +21,16 @@ start-kept :
     let a = c .before .before .before .before .before .before .before .before .before .before .before .before .before .before .before .before .before .before .before .args in
     let v = c .before .before .before .before .before .before .before .before .before .before .before .before .before .before .before .sight-of in
     Kept (a .scan) (a .backwards) (a .plate .now) (getD (a .path .now) (a .walk .start) 0) (v .result) (c .before .before .before .before .before .before .before .before .before .before .before .before .lay-keys .last .0) (replicate 64 0)
-    (record { base = v .result .plan .lines * v .result .plan .across; places = c .before .before .before .before .before .before .places-in .result; depth = 0 })
+    (record { base = v .result .plan .lines * v .result .plan .across; places = c .before .before .before .before .before .before .states-fitting .result; depth = 0 })
 start-kept c =
     let s = c .before .before .before .before .before .before .before .before .before .before .before .before .before .before .before .before .before .before .before in
     let a = s .args in
     let v = c .before .before .before .before .before .before .before .before .before .before .before .before .before .before .before .sight-of in
     let x = getD (a .path .now) (a .walk .start) 0 in
     let k = c .before .before .before .before .before .before .before .before .before .before .before .before .lay-keys in
-    let o = c .before .before .before .before .before .before .places-in .ensures in
+    let o = c .before .before .before .before .before .before .states-fitting .ensures in
     let room = sight-room (a .scan) (s .pre .0 .0) (a .backwards) x (v .result) (v .ensures) (length (k .last .0)) (omega (arith, s .pre .1 .0 .1, k .ensures .keys .len)) in
-    let stack : Stack = record { base = v .result .plan .lines * v .result .plan .across; places = c .before .before .before .before .before .before .places-in .result; depth = 0 } in
+    let stack : Stack = record { base = v .result .plan .lines * v .result .plan .across; places = c .before .before .before .before .before .before .states-fitting .result; depth = 0 } in
     kept-empty (a .scan) (a .backwards) (a .plate .now) x (v .result) (s .pre .0 .0) (v .ensures) (a .work .now) (k .last .0) (replicate 64 0) stack refl (k .ensures)
     (empty-fits (a .scan) (a .backwards) (a .plate .now) x (v .result) (s .pre .0 .0) (v .ensures) (a .work .now) (k .last .0) (replicate 64 0) stack refl room refl (o .0) (o .1)
     (o .2) (o .1))
@@ -77,8 +77,8 @@ mul-base c =
     let v = c .before .before .before .before .before .before .sight-of in
     omega (arith, sight-room (a .scan) (s .pre .0 .0) (a .backwards) (getD (a .path .now) (a .walk .start) 0) (v .result) (v .ensures) (length (a .work .now)) (s .pre .1 .0 .1) .keys)
 
-sub-places-in : tie.Need-sub-places-in
-sub-places-in c =
+sub-states-fitting : tie.Need-sub-states-fitting
+sub-states-fitting c =
     let s = c .before .before .before .before .before .before .before .before .before .before in
     let a = s .args in
     let v = c .before .before .before .before .before .before .sight-of in
@@ -88,22 +88,22 @@ sub-places-in c =
       c .before .before .before .lay-keys .ensures .keys .len,
     )
 
-mul-places-in : tie.Need-mul-places-in
-mul-places-in c =
+mul-states-fitting : tie.Need-mul-states-fitting
+mul-states-fitting c =
     let s = c .before .before .before .before .before .before .before .before .before .before .before in
     let a = s .args in
     let v = c .before .before .before .before .before .before .before .sight-of in
     omega (arith, row-below (v .result .plan) (sight-sound (a .scan) (s .pre .0 .0) (a .backwards) (getD (a .path .now) (a .walk .start) 0) (v .result) (v .ensures)))
 
-mul-places-in-2 : tie.Need-mul-places-in-2
-mul-places-in-2 c =
+mul-states-fitting-2 : tie.Need-mul-states-fitting-2
+mul-states-fitting-2 c =
     let s = c .before .before .before .before .before .before .before .before .before .before .before .before in
     let a = s .args in
     let v = c .before .before .before .before .before .before .before .before .sight-of in
     omega (arith, state-below (v .result .plan) (sight-sound (a .scan) (s .pre .0 .0) (a .backwards) (getD (a .path .now) (a .walk .start) 0) (v .result) (v .ensures)))
 
-places-in-requires : tie.Need-places-in-requires
-places-in-requires c κs =
+states-fitting-requires : tie.Need-states-fitting-requires
+states-fitting-requires c κs =
     let s = c .before .before .before .before .before .before .before .before .before .before .before .before in
     let a = s .args in
     let v = c .before .before .before .before .before .before .before .before .sight-of in
@@ -234,10 +234,10 @@ follow-counted-spec =
     sight-of-requires
     lay-keys-requires
     mul-base
-    sub-places-in
-    mul-places-in
-    mul-places-in-2
-    places-in-requires
+    sub-states-fitting
+    mul-states-fitting
+    mul-states-fitting-2
+    states-fitting-requires
     slice-aggregate-fetch
     slice-aggregate-fetch-2
     slice-aggregate-fetch-3

@@ -1,9 +1,9 @@
--- `places_in` meets its contract: the quotient says how many states find room, and one of them is not of the stack.
+-- `states_fitting` meets its contract: the quotient says how many states find room, and one of them is not of the stack.
 use native.Mathlib.Omega.{arith}
 use Rattle.sweeps.proofs.StackLaws.{two-places, places-fit}
 use borrow.Author.Needs.{needs}
-use Rattle.sweeps.proofs.sweeping.places_in.Statement.{statement}
-use Rattle.sweeps.proofs.sweeping.places_in.Tie as tie
+use Rattle.sweeps.proofs.sweeping.states_fitting.Statement.{statement}
+use Rattle.sweeps.proofs.sweeping.states_fitting.Tie as tie
 
 div-all : tie.Need-div-all
 div-all c = search needs
@@ -19,5 +19,5 @@ returns-2 c =
     let two = two-places _ _ (c .before .pre .0) (c .before .pre .1) in
     (omega arith, omega arith, places-fit _ _ _ (omega arith))
 
-pub places-in-spec : {M : Type 1} → statement M
-places-in-spec = tie.close (tie.spec div-all sub-all returns returns-2)
+pub states-fitting-spec : {M : Type 1} → statement M
+states-fitting-spec = tie.close (tie.spec div-all sub-all returns returns-2)

@@ -1,10 +1,10 @@
--- `places_in` meets its contract: as many as the room has, or the 64 that there are marks for.
+-- `states_fitting` meets its contract: as many as the room has, or the 64 that there are marks for.
 use Prim.Native.Nat.{_/_}
 use native.Mathlib.Nat.{div-mul-le-self, le-div-iff-mul-le, mul-le-mul}
 use native.Mathlib.Omega.{arith}
 use borrow.Author.Needs.{needs}
-use Rattle.tracing.proofs.follow.places_in.Statement.{statement}
-use Rattle.tracing.proofs.follow.places_in.Tie as tie
+use Rattle.tracing.proofs.follow.states_fitting.Statement.{statement}
+use Rattle.tracing.proofs.follow.states_fitting.Tie as tie
 
 div-all : tie.Need-div-all
 div-all c = search needs
@@ -19,5 +19,5 @@ returns-2 c =
     let a = c .before .args in
     (le-div-iff-mul-le (c .before .pre .0) .1 (omega (arith, c .before .pre .1)), omega (arith, c .if1 .left), div-mul-le-self (a .room) (a .size))
 
-pub places-in-spec : {M : Type 1} → statement M
-places-in-spec = tie.close (tie.spec div-all returns returns-2)
+pub states-fitting-spec : {M : Type 1} → statement M
+states-fitting-spec = tie.close (tie.spec div-all returns returns-2)

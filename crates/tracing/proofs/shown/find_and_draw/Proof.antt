@@ -1,4 +1,4 @@
--- `show` meets its contract: the best path found has the filtered level, and drawn it shows all that demand 3 asks for.
+-- `find_and_draw` meets its contract: the best path found has the filtered level, and drawn it shows all that demand 3 asks for.
 use mathlib.Core.Path.{sym, ap, _∙_}
 use native.Mathlib.Omega.{arith}
 use borrow.Author.Needs.{needs}
@@ -11,8 +11,8 @@ use Rattle.tracing.proofs.Directions.{usable-long}
 use Rattle.tracing.proofs.Modes.{level-turned}
 use Rattle.tracing.proofs.Finding.{scan-pixels, scan-room, scan-attained, scan-drawn}
 use Rattle.tracing.proofs.Showing.{clear-long, clear-plate, clear-path, clear-on, clear-accepted-sizes, level-found, path-shown}
-use Rattle.tracing.proofs.shown.show.Statement.{statement}
-use Rattle.tracing.proofs.shown.show.Tie as tie
+use Rattle.tracing.proofs.shown.find_and_draw.Statement.{statement}
+use Rattle.tracing.proofs.shown.find_and_draw.Tie as tie
 
 find-requires : tie.Need-find-requires
 find-requires c κs =
@@ -91,8 +91,8 @@ returns c =
           (length (a .path .now)) (length (a .work .now)) (s .pre .0)),
     )
 
-pub show-spec : {M : Type 1} → statement M
-show-spec =
+pub find-and-draw-spec : {M : Type 1} → statement M
+find-and-draw-spec =
     tie.close
     (tie.spec
     find-requires
