@@ -60,8 +60,8 @@
  *     6   an input buffer does not have exactly width * height numbers
  *     7   the result does not have exactly width * height numbers, or the path not exactly length
  *     8   the work buffer has less than 4 * (gaps + 1) * width * height numbers
- *     9   a reading is above 4095
- *     10  a correction is below -4096 or above 4095
+ *     9   a reading is above DIILVAK_MAX_READING
+ *     10  a correction is below DIILVAK_MIN_CORRECTION or above DIILVAK_MAX_CORRECTION
  *     11  the traced place is not below width * height
  *     12  no path of that length, in one of the directions, goes through the pixel
  *
@@ -99,15 +99,15 @@
 extern "C" {
 #endif
 
-/* The version of this header, 0.2.0, as one number: major * 10000 + minor * 100 + patch. */
-#define DIILVAK_VERSION 200
+/* The version of this header, 0.3.0, as one number: major * 10000 + minor * 100 + patch. */
+#define DIILVAK_VERSION 300
 
 /* Limits. */
 #define DIILVAK_MAX_SIDE 1024
 #define DIILVAK_MAX_PIXELS 65536
-#define DIILVAK_MAX_READING 4095
-#define DIILVAK_MIN_CORRECTION (-4096)
-#define DIILVAK_MAX_CORRECTION 4095
+#define DIILVAK_MAX_READING 16383
+#define DIILVAK_MIN_CORRECTION (-16384)
+#define DIILVAK_MAX_CORRECTION 16383
 #define DIILVAK_MAX_LENGTH 1024
 #define DIILVAK_MAX_GAPS 8
 #define DIILVAK_MAX_DIRECTIONS 15
@@ -163,9 +163,9 @@ size_t diilvak_work_length(size_t width, size_t height, size_t gaps);
 
 /* Corrects a plate of readings: result[p] = readings[p] + the correction of words[p].
  *
- * readings   width * height numbers, each 0 to 4095
- * words      width * height corrections, each a 16-bit word in two's complement: the word 65534 is the
- *            correction -2. Corrections are -4096 to 4095, so words are 0 to 4095 and 61440 to 65535
+ * readings   width * height numbers, each 0 to DIILVAK_MAX_READING
+ * words      width * height corrections, DIILVAK_MIN_CORRECTION to DIILVAK_MAX_CORRECTION, each a
+ *            16-bit word in two's complement: the word 65534 is the correction -2
  * result     room for width * height levels
  * place      the place that a refusal reports
  *
@@ -173,7 +173,7 @@ size_t diilvak_work_length(size_t width, size_t height, size_t gaps);
  *     1    bad size
  *     6    readings_len or words_len is not width * height
  *     7    result_len is not width * height
- *     9    a reading is above 4095; *place is the first such place
+ *     9    a reading is too large; *place is the first such place
  *     10   a correction is out of bounds; *place is the first such place
  * in this order: all readings are judged before any correction. *place is written by every call, and is
  * 0 where the result is not 9 or 10. A refused call leaves result as it was. readings and words are

@@ -1,7 +1,8 @@
 // Tests the calls that need no engine, by document 01's cases: making a setting, correcting a plate,
-// stepping a walker. There are the edge words and gap counts of section 7, one case for each refusal
-// number of section 5 that these calls have, and the directions' steps of section 2. Each case prints
-// its name and what came back; the file stdout beside src/ has what the paper says.
+// stepping a walker. There are the edge words and gap counts of section 7 with the bounds of document
+// 02, N1, one case for each refusal number of section 5 that these calls have, and the directions'
+// steps of section 2. Each case prints its name and what came back; the file stdout beside src/ has
+// what the papers say.
 use libc::STDOUT_FILENO;
 use plate::Answer;
 use plate::Made;
@@ -11,6 +12,7 @@ use plate::Walker;
 
 fn main() {
     edge_words();
+    edge_readings();
     gap_counts();
     setting_refusals();
     size_refusals();
@@ -48,20 +50,30 @@ fn print_made(name: &[u8], made: Made) {
     }
 }
 
-// One pixel with the reading 0 and this word.
-fn correct_word(name: &[u8], word: u16) {
-    let readings = [0u16; 1];
+// A plate of one pixel.
+fn correct_pixel(name: &[u8], reading: u16, word: u16) {
+    let readings = [reading];
     let words = [word];
     let mut result = [0i16; 1];
     print_corrected(name, plate::correct(1, 1, &readings, &words, &mut result));
 }
 
+// A pixel with the reading 0.
+fn correct_word(name: &[u8], word: u16) {
+    correct_pixel(name, 0, word);
+}
+
 fn edge_words() {
-    correct_word(b"word 61440", 61440);
-    correct_word(b"word 4095", 4095);
-    correct_word(b"word 61439", 61439);
-    correct_word(b"word 4096", 4096);
+    correct_word(b"word 49152", 49152);
+    correct_word(b"word 16383", 16383);
+    correct_word(b"word 49151", 49151);
+    correct_word(b"word 16384", 16384);
     correct_word(b"word 32768", 32768);
+}
+
+fn edge_readings() {
+    correct_pixel(b"reading 16383 word 16383", 16383, 16383);
+    correct_pixel(b"reading 16384 word 16384", 16384, 16384);
 }
 
 fn gap_counts() {
@@ -118,16 +130,16 @@ fn length_refusals() {
 
 fn value_refusals() {
     let good = [1u16, 2, 3, 4, 5, 6];
-    let readings = [1u16, 2, 3, 4096, 5, 5000];
+    let readings = [1u16, 2, 3, 16384, 5, 20000];
     let zeros = [0u16; 6];
-    let words = [0u16, 0, 61439, 0, 4096, 0];
+    let words = [0u16, 0, 49151, 0, 16384, 0];
     let mut result = [7i16; 6];
     print_corrected(
-        b"reading 4096 fourth",
+        b"reading 16384 fourth",
         plate::correct(3, 2, &readings, &zeros, &mut result),
     );
     print_corrected(
-        b"word 61439 third",
+        b"word 49151 third",
         plate::correct(3, 2, &good, &words, &mut result),
     );
     if result[0] == 7 {
@@ -137,7 +149,7 @@ fn value_refusals() {
 
 // A bad reading late on the plate wins over a bad correction early on it.
 fn judged_in_order() {
-    let readings = [0u16, 0, 0, 4096];
+    let readings = [0u16, 0, 0, 16384];
     let words = [32768u16, 0, 0, 0];
     let mut result = [0i16; 4];
     print_corrected(

@@ -19,8 +19,8 @@ use plate::Setting;
 use plate::Traced;
 use plate::Walker;
 
-// This version, 0.2.0, as one number: major * 10000 + minor * 100 + patch.
-const VERSION: usize = 200;
+// This version, 0.3.0, as one number: major * 10000 + minor * 100 + patch.
+const VERSION: usize = 300;
 
 // The version that a program runs with, for callers to hold to that of their header.
 #[no_mangle]

@@ -1,4 +1,4 @@
--- Laws of the correction: a word within the bounds has a small correction, so reading plus correction has 16 bits.
+-- Laws of the correction: a word within the bounds has a small correction, so reading plus correction has 16 bits. The bounds are those of specs/Limits.antt, by name: others need no other proof as long as their sum fits.
 use Prim.Native.Nat.{ℕ, _≤_}
 use mathlib.Core.Path.{_≡_}
 use mathlib.Core.Bool.{false}
@@ -10,18 +10,18 @@ use mir.Syntax.{w16}
 use mir.Val.{SFits}
 use Rattle.basics.proofs.Tests.{or-false-left, or-false-right}
 use Rattle.basics.proofs.Integers.{mag-add, mag-within}
-use Rattle.plate.specs.Limits.{minCorrection, maxCorrection}
+use Rattle.plate.specs.Limits.{maxReading, minCorrection, maxCorrection}
 use Rattle.plate.specs.Levels.{signed, corrected}
 use Rattle.plate.specs.Refusals.{badReading, badCorrection}
 
-correction-size : (word : ℕ) → badCorrection word ≡ false → mag (signed word) ≤ 4095
+correction-size : (word : ℕ) → badCorrection word ≡ false → mag (signed word) ≤ mag maxCorrection
 unfolding badCorrection
 correction-size word good =
     let low = ltZ (signed word) minCorrection in
     let high = ltZ maxCorrection (signed word) in
-    mag-within 4095 (signed word) (or-false-left low high good) (or-false-right low high good)
+    mag-within (mag maxCorrection) (signed word) (or-false-left low high good) (or-false-right low high good)
 
 pub corrected-fits : (reading word : ℕ) → badReading reading ≡ false → badCorrection word ≡ false → SFits w16 (corrected reading word)
 unfolding badReading corrected
 corrected-fits reading word p q =
-    record { sfits = omega (arith, ltb-false 4095 reading p, correction-size word q, mag-add (pos reading) (signed word)) }
+    record { sfits = omega (arith, ltb-false maxReading reading p, correction-size word q, mag-add (pos reading) (signed word)) }

@@ -1,4 +1,4 @@
--- The limits of document 01, sections 1, 2 and 5.
+-- The limits of document 01, sections 1, 2 and 5, with the readings and corrections of document 02, N1.
 use Prim.Native.Nat.{ℕ}
 use lib.IntN.{ℤ, pos, negsuc}
 
@@ -11,13 +11,13 @@ maxPixels = 65536
 
 -- the largest reading; the least and the largest correction (`negsuc n` is −(n + 1))
 abbrev pub maxReading : ℕ
-maxReading = 4095
+maxReading = 16383
 
 abbrev pub minCorrection : ℤ
-minCorrection = negsuc 4095
+minCorrection = negsuc 16383
 
 abbrev pub maxCorrection : ℤ
-maxCorrection = pos 4095
+maxCorrection = pos 16383
 
 -- the largest length, gap count, set of directions and mode of a setting
 abbrev pub maxLength : ℕ

@@ -76,7 +76,7 @@ resultCheck wanted room = row refusalResult (not (eqb room wanted)) 0
 abbrev pub workCheck : ℕ → ℕ → ℕ → Check
 workCheck k pixels room = row refusalWork (ltb room (4 * (k + 1) * pixels)) 0
 
--- a reading above 4,095, with the first such place
+-- a reading above the largest, with the first such place
 unfoldable pub badReading : ℕ → Bool
 badReading reading = ltb maxReading reading
 

@@ -12,12 +12,12 @@ use crate::level;
 use crate::refusal;
 use crate::size;
 
-// The largest reading, and the least and the largest correction (document 01, section 1).
-pub const MAX_READING: u16 = 4095;
+// The largest reading, and the least and the largest correction (document 02, N1).
+pub const MAX_READING: u16 = 16383;
 
-pub const MIN_CORRECTION: i32 = -4096;
+pub const MIN_CORRECTION: i32 = -16384;
 
-pub const MAX_CORRECTION: i32 = 4095;
+pub const MAX_CORRECTION: i32 = 16383;
 
 // Fills result with the corrected levels. All readings are judged before any correction, and both
 // before the first store.

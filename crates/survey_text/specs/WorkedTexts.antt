@@ -61,8 +61,8 @@ workedTexts =
     ∷ refusing (changed 10 "cor=0,65536,0,0") ("refused=13" ∷ "place=10" ∷ [])
     ∷ refusing (take (length (lines example) - 1) (lines example)) ("refused=13" ∷ "place=10" ∷ [])  -- the last newline is missing
     ∷ refusing (lines (example ++ ("" ∷ []))) ("refused=13" ∷ "place=11" ∷ [])  -- an empty line more
-    ∷ refusing (changed 9 "row=9,7,4096,8") ("refused=9" ∷ "place=2" ∷ [])
-    ∷ refusing (changed 10 "cor=0,0,0,61439") ("refused=10" ∷ "place=3" ∷ [])
+    ∷ refusing (changed 9 "row=9,7,16384,8") ("refused=9" ∷ "place=2" ∷ [])
+    ∷ refusing (changed 10 "cor=0,0,0,49151") ("refused=10" ∷ "place=3" ∷ [])
     ∷ refusing (changed 5 "gaps=4") ("refused=3" ∷ "place=0" ∷ [])
     ∷ refusing (changed 8 "at=4") ("width=4" ∷ "height=1" ∷ "out=8,5,8,8" ∷ "refused=11" ∷ "place=0" ∷ [])
     ∷ refusing (changed 6 "ways=1") ("width=4" ∷ "height=1" ∷ "out=-32768,-32768,-32768,-32768" ∷ "refused=12" ∷ "place=0" ∷ [])

@@ -1,9 +1,12 @@
-//! Plates, settings, directions and refusals: what all methods share (sections 1 to 5). All numbers are
-//! bare, so that a setting can be as wrong as a caller can make it.
+//! Plates, settings, directions and refusals: what all methods share (sections 1 to 5, with the bounds of
+//! document 02, N1). All numbers are bare, so that a setting can be as wrong as a caller can make it.
 use std::fmt;
+use std::ops::RangeInclusive;
 
 pub const MAX_SIDE: usize = 1024;
 pub const MAX_PIXELS: usize = 65_536;
+pub const MAX_READING: u16 = 16_383;
+pub const CORRECTIONS: RangeInclusive<i32> = -16_384..=16_383;
 pub const MAX_LENGTH: usize = 1024;
 pub const MAX_GAPS: usize = 8;
 

@@ -1,5 +1,5 @@
 //! The refusal table of section 5: what each call is refused with, in the order of the numbers.
-use crate::plate::{bad_size, Refusal, Setting, MAX_GAPS, MAX_LENGTH};
+use crate::plate::{bad_size, Refusal, Setting, CORRECTIONS, MAX_GAPS, MAX_LENGTH, MAX_READING};
 
 /// The lengths of the buffers lent to a filter or a trace. `result` is the path buffer of a trace.
 #[derive(Clone, Copy, Debug)]
@@ -55,10 +55,10 @@ pub fn correct(
     if result != pixels {
         return refuse(7);
     }
-    if let Some(place) = readings.iter().position(|&reading| reading > 4095) {
+    if let Some(place) = readings.iter().position(|&reading| reading > MAX_READING) {
         return Err(Refusal { number: 9, place });
     }
-    let out_of_bounds = |&word: &u16| !(-4096..=4095).contains(&signed(word));
+    let out_of_bounds = |&word: &u16| !CORRECTIONS.contains(&signed(word));
     if let Some(place) = words.iter().position(out_of_bounds) {
         return Err(Refusal { number: 10, place });
     }

@@ -7,9 +7,12 @@ use std::process::{Command, Stdio};
 /// Section 6's example.
 const EXAMPLE: &str = include_str!("../../../examples/plate.txt");
 
+/// The page that shows the format.
+const FORMAT: &str = include_str!("../../../docs/FORMAT.md");
+
 /// A closing with levels below 0, so that minus signs are printed, in two rows and two directions.
 const DARK: &str = "plate=1\nwidth=3\nheight=2\nlength=3\ngaps=1\nways=6\nmode=1\nat=4\n\
-    row=9,7,12\nrow=4,0,300\ncor=0,65534,65000\ncor=61440,65530,4095\n";
+    row=9,7,12\nrow=4,0,300\ncor=0,65534,65000\ncor=49152,65530,16383\n";
 
 fn survey(text: &[u8]) -> Vec<u8> {
     let program = PathBuf::from(env!("CARGO_MANIFEST_DIR")).join("../../target/bin/survey");
@@ -52,29 +55,31 @@ fn spoilt_answers() {
     }
 }
 
-/// By hand: a change of the example, and the refusal that it leads to.
+/// The rows of the page's table of refusals: a change of the example, and the answer to it.
 #[test]
 fn every_refusal() {
-    let changes = [
-        ("width=4", "width=0", 1, 0),
-        ("length=4", "length=0", 2, 0),
-        ("gaps=1", "gaps=4", 3, 0),
-        ("ways=2", "ways=16", 4, 0),
-        ("mode=0", "mode=2", 5, 0),
-        ("12,8", "4096,8", 9, 2),
-        ("65534", "61439", 10, 1),
-        ("at=0", "at=4", 11, 0),
-        ("length=4", "length=5", 12, 0),
-        ("12,8", "12", 13, 9),
-        ("width=4", "width=513", 14, 0),
-    ];
-    for (old, new, number, place) in changes {
-        let answer = survey(EXAMPLE.replacen(old, new, 1).as_bytes());
-        let answer = String::from_utf8(answer).unwrap();
-        let lines = format!("refused={number}\nplace={place}\n");
-        let map = if matches!(number, 11 | 12) { "width=4\nheight=1\nout=" } else { "refused=" };
-        assert!(answer.starts_with(map) && answer.ends_with(&lines), "{new}: {answer}");
+    fn quoted(cell: &str) -> Vec<&str> {
+        cell.split('`').skip(1).step_by(2).collect()
     }
+    let mut numbers = Vec::new();
+    for row in FORMAT.lines().filter(|row| row.contains("`refused=")) {
+        let cells: Vec<&str> = row.split('|').collect();
+        let (change, expected) = (quoted(cells[1])[0], quoted(cells[2]));
+        let name = change.split_inclusive('=').next().unwrap();
+        let changed = |line: &str| if line.starts_with(name) { change } else { line }.to_string();
+        let text: String = EXAMPLE.lines().map(|line| changed(line) + "\n").collect();
+        assert_ne!(text, EXAMPLE, "{row}");
+        let answer = String::from_utf8(survey(text.as_bytes())).unwrap();
+        let (refusal, map) = match expected[..] {
+            ["out=", number, place] => ([number, place], "width=4\nheight=1\nout="),
+            [number, place] => ([number, place], "refused="),
+            _ => panic!("{row}"),
+        };
+        assert!(answer.starts_with(map), "{row}: {answer}");
+        assert!(answer.ends_with(&(refusal.join("\n") + "\n")), "{row}: {answer}");
+        numbers.push(refusal[0].strip_prefix("refused=").unwrap());
+    }
+    assert_eq!(numbers, ["1", "2", "3", "4", "5", "9", "10", "11", "12", "13", "14"]);
 }
 
 #[test]

@@ -1,20 +1,20 @@
 //! The numbers of `include/diilvak.h`, under the names that they have there after `DIILVAK_`.
 //! tests/numbers.rs holds them to the header and to the proved code.
 
-/// This version, 0.2.0, as one number: major × 10000 + minor × 100 + patch. [`version`](crate::version)
+/// This version, 0.3.0, as one number: major × 10000 + minor × 100 + patch. [`version`](crate::version)
 /// answers that of the library which is linked.
-pub const VERSION: usize = 200;
+pub const VERSION: usize = 300;
 
 /// The largest width or height of a plate.
 pub const MAX_SIDE: usize = 1024;
 /// The largest number of a plate's pixels.
 pub const MAX_PIXELS: usize = 65_536;
 /// The largest reading.
-pub const MAX_READING: u16 = 4095;
+pub const MAX_READING: u16 = 16_383;
 /// The lowest correction.
-pub const MIN_CORRECTION: i32 = -4096;
+pub const MIN_CORRECTION: i32 = -16_384;
 /// The highest correction.
-pub const MAX_CORRECTION: i32 = 4095;
+pub const MAX_CORRECTION: i32 = 16_383;
 /// The largest length of a path, in pixels.
 pub const MAX_LENGTH: usize = 1024;
 /// The largest gap count.

@@ -2,7 +2,7 @@
 use crate::calls::{correct_call, filter_call, number, trace_call};
 use checking::cases::rounds;
 use checking::engine::{self, numbers};
-use checking::plate::{bad_size, OPENING};
+use checking::plate::{bad_size, CORRECTIONS, MAX_READING, OPENING};
 use checking::random::Random;
 use checking::table::{self, Lengths};
 use checking::{Plate, Refusal, Setting};
@@ -15,12 +15,42 @@ fn worked_refusals() {
     let pixel = Plate::new(1, 1, vec![-7]).unwrap();
     let no_path = Err(Refusal { number: 12, place: 0 });
     assert_eq!(engine::trace(&pixel, set(2, 1, 15, OPENING), 0), no_path);
-    for (word, expected) in [(61_440, 0), (4095, 0), (61_439, 10), (4096, 10), (32_768, 10)] {
-        let found = engine::correct(1, 1, &[0], &[word]);
-        assert_eq!(number(found.map(|_| ())), expected, "word {word}");
-    }
     assert_eq!(number(engine::setting(set(9, 8, 1, 0)).map(|_| ())), 0);
     assert_eq!(number(engine::setting(set(8, 8, 1, 0)).map(|_| ())), 3);
+}
+
+/// A reading and a word by hand, and their level or their refusal: the edge words of section 7 with the
+/// bounds of document 02, N1, the edges of both, and what was refused before.
+#[test]
+fn worked_corrections() {
+    let refused = |number| Err(Refusal { number, place: 0 });
+    let worked = [
+        (16_383, 16_383, Ok(32_766)),
+        (0, 49_152, Ok(-16_384)),
+        (0, 16_383, Ok(16_383)),
+        (4096, 61_439, Ok(-1)),
+        (0, 49_151, refused(10)),
+        (0, 16_384, refused(10)),
+        (0, 32_768, refused(10)),
+        (16_384, 0, refused(9)),
+        (16_384, 16_384, refused(9)),
+    ];
+    for (reading, word, expected) in worked {
+        let found = engine::correct(1, 1, &[reading], &[word]).map(|plate| plate.levels()[0]);
+        assert_eq!(found, expected, "{reading} with {word}");
+    }
+}
+
+/// Every reading with the corrections at both bounds: the levels are -16,384 to 32,766 and no other.
+#[test]
+fn corrected_range() {
+    let readings: Vec<u16> = (0..=MAX_READING).collect();
+    let levels = |word| {
+        let plate = engine::correct(1024, 16, &readings, &[word; 1024 * 16]);
+        plate.expect("within the bounds").levels().to_vec()
+    };
+    assert!(levels(49_152).into_iter().eq(-16_384..=-1));
+    assert!(levels(16_383).into_iter().eq(16_383..=32_766));
 }
 
 /// A size: mostly a small one, else one at or past the limits.
@@ -90,14 +120,14 @@ fn refusals_follow_the_table() {
         let one_in_ten = |random: &mut Random| random.below(10) == 0;
         let readings: Vec<u16> = (0..any_length(&mut random, pixels))
             .map(|_| match one_in_ten(&mut random) {
-                true => random.pick(&[0, 4095, 4095, 4096, 65_535]),
-                false => random.below(4096) as u16,
+                true => random.pick(&[0, 4095, 4096, MAX_READING, MAX_READING + 1, 65_535]),
+                false => random.within(0, MAX_READING.into()) as u16,
             })
             .collect();
         let words: Vec<u16> = (0..any_length(&mut random, pixels))
             .map(|_| match one_in_ten(&mut random) {
-                true => random.pick(&[4095, 4096, 32_767, 32_768, 61_439, 61_440]),
-                false => (random.below(8192) as i32 - 4096) as u16,
+                true => random.pick(&[16_383, 16_384, 32_767, 32_768, 49_151, 49_152, 61_439]),
+                false => (random.below(32_768) as i32 + CORRECTIONS.start()) as u16,
             })
             .collect();
         let room = any_length(&mut random, pixels);
@@ -117,16 +147,16 @@ fn refusals_follow_the_table() {
 #[test]
 fn places_of_bad_readings_and_corrections() {
     let mut random = Random(16);
-    let (mut readings, mut words) = (vec![4095; 12], vec![61_440; 12]);
+    let (mut readings, mut words) = (vec![16_383; 12], vec![49_152; 12]);
     let mut refused = |readings: &[u16], words: &[u16]| {
         correct_call(&mut random, (4, 3), readings, words, 12);
         engine::correct(4, 3, readings, words).map(|_| ()).err()
     };
     assert_eq!(refused(&readings, &words), None);
     words[7] = 32_768;
-    words[2] = 4096;
+    words[2] = 16_384;
     assert_eq!(refused(&readings, &words), Some(Refusal { number: 10, place: 2 }));
-    readings[11] = 4096;
+    readings[11] = 16_384;
     readings[9] = 65_535;
     assert_eq!(refused(&readings, &words), Some(Refusal { number: 9, place: 9 }));
 }
