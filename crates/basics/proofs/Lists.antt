@@ -141,6 +141,20 @@ firstOf-le test (x ∷ s) = ⊎-elim (λ e. rw e (omega arith)) (λ e. rw e (ome
 pub passed-end : {A : Type 0} (test : A → Bool) (s : List A) (i : ℕ) → length s ≤ i → Passed test s i → firstOf test s ≡ i
 passed-end test s i h j = omega (arith, firstOf-le test s)
 
+-- a search of two lists in a row: what the first has is found there, else the second is searched
+pub found-before : {A : Type 0} (test : A → Bool) (s t : List A) → firstOf test s < length s → firstOf test (s ++ t) ≡ firstOf test s
+unfolding firstOf
+found-before test [] t h = absurd (omega arith)
+found-before test (x ∷ s) t h =
+    ⊎-elim (λ e. rw e) (λ e. let k = rw e at h in rw (e, found-before test s t (omega arith))) (true-or-false (test x))
+
+pub found-after : {A : Type 0} (test : A → Bool) (s t : List A) → length s ≤ firstOf test s → firstOf test (s ++ t) ≡ length s + firstOf test t
+unfolding firstOf
+found-after test [] t h = omega arith
+found-after test (x ∷ s) t h =
+    ⊎-elim (λ e. absurd (omega (arith, rw e at h)))
+    (λ e. let k = rw e at h in rw e (omega (arith, found-after test s t (omega arith)))) (true-or-false (test x))
+
 -- where the search finds nothing, the test fails at each index
 pub none-passes : {A : Type 0} (test : A → Bool) (s : List A) → length s ≤ firstOf test s → (i : ℕ) (d : A) → i < length s → test (getD s i d) ≡ false
 unfolding firstOf

@@ -1,10 +1,11 @@
 // Tests the calls that need no engine, by document 01's cases: making a setting, correcting a plate,
 // stepping a walker. There are the edge words and gap counts of section 7 with the bounds of document
-// 02, N1, one case for each refusal number of section 5 that these calls have, and the directions'
-// steps of section 2. Each case prints its name and what came back; the file stdout beside src/ has
-// what the papers say.
+// 02, N1, one case for each refusal number of section 5 that these calls have, what the walk of document
+// 02, N4 holds after each pixel, and the directions' steps of section 2. Each case prints its name and what
+// came back; the file stdout beside src/ has what the papers say.
 use libc::STDOUT_FILENO;
 use plate::Answer;
+use plate::FirstFault;
 use plate::Made;
 use plate::Moved;
 use plate::Setting;
@@ -19,6 +20,9 @@ fn main() {
     length_refusals();
     value_refusals();
     judged_in_order();
+    walk_to_late_correction();
+    walk_to_late_reading();
+    walk_without_bad_reading();
     walks();
 }
 
@@ -155,6 +159,73 @@ fn judged_in_order() {
     print_corrected(
         b"late reading, early word",
         plate::correct(2, 2, &readings, &words, &mut result),
+    );
+}
+
+fn print_first(first: FirstFault) {
+    match first {
+        FirstFault::At(place) => print_number(place),
+        FirstFault::Nowhere => {
+            io::write_all(STDOUT_FILENO, b"none");
+        }
+    }
+}
+
+// What the walk over these pixels holds: "NAME: " and the first bad reading and correction, or "none".
+fn print_faults(name: &[u8], readings: &[u16], words: &[u16]) {
+    let faults = plate::find_faults(readings, words);
+    let reading = faults.reading;
+    let correction = faults.correction;
+    io::write_all(STDOUT_FILENO, name);
+    io::write_all(STDOUT_FILENO, b": ");
+    print_first(reading);
+    io::write_all(STDOUT_FILENO, b" ");
+    print_first(correction);
+    io::write_all(STDOUT_FILENO, b"\n");
+}
+
+// A bad correction after a bad reading is held too, and later ones of either kind are not. Where the lists
+// differ in length the walk ends with the shorter one.
+fn walk_to_late_correction() {
+    let readings = [5u16, 16384, 3, 20000];
+    let words = [0u16, 0, 49151, 16384];
+    let mut result = [0i16; 4];
+    print_faults(b"after 0 of 4", &readings[..0], &words[..0]);
+    print_faults(b"after 1 of 4", &readings[..1], &words[..1]);
+    print_faults(b"after 2 of 4", &readings[..2], &words[..2]);
+    print_faults(b"after 3 of 4", &readings[..3], &words[..3]);
+    print_faults(b"after 4 of 4", &readings, &words);
+    print_faults(b"2 words alone", &readings, &words[..2]);
+    print_faults(b"1 reading alone", &readings[..1], &words);
+    print_corrected(
+        b"the four",
+        plate::correct(4, 1, &readings, &words, &mut result),
+    );
+}
+
+// A bad reading after a bad correction.
+fn walk_to_late_reading() {
+    let readings = [5u16, 3, 16384];
+    let words = [16384u16, 0, 0];
+    let mut result = [0i16; 3];
+    print_faults(b"after 0 of 3", &readings[..0], &words[..0]);
+    print_faults(b"after 1 of 3", &readings[..1], &words[..1]);
+    print_faults(b"after 2 of 3", &readings[..2], &words[..2]);
+    print_faults(b"after 3 of 3", &readings, &words);
+    print_corrected(
+        b"the three",
+        plate::correct(3, 1, &readings, &words, &mut result),
+    );
+}
+
+fn walk_without_bad_reading() {
+    let readings = [5u16, 3];
+    let words = [0u16, 16384];
+    let mut result = [0i16; 2];
+    print_faults(b"after 2 of 2", &readings, &words);
+    print_corrected(
+        b"the two",
+        plate::correct(2, 1, &readings, &words, &mut result),
     );
 }
 

@@ -8,3 +8,5 @@ pub mod Calls
 pub mod WalkerSteps
 pub mod Within
 pub mod CorrectedLevels
+pub mod FirstFaults
+pub mod CorrectionVerdicts

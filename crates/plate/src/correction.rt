@@ -8,16 +8,11 @@ ghost use Rattle.plate.specs.Levels.{corrected, correctedPlate};
 ghost use Rattle.plate.specs.Refusals.{badReading, badCorrection, correctionVerdict};
 ghost use Rattle.plate.specs.Answers.{answered, resultAfter};
 use crate::answer::Answer;
+use crate::faults;
+use crate::faults::FirstFault;
 use crate::level;
 use crate::refusal;
 use crate::size;
-
-// The largest reading, and the least and the largest correction (document 02, N1).
-pub const MAX_READING: u16 = 16383;
-
-pub const MIN_CORRECTION: i32 = -16384;
-
-pub const MAX_CORRECTION: i32 = 16383;
 
 // Fills result with the corrected levels. All readings are judged before any correction, and both
 // before the first store.
@@ -56,60 +51,23 @@ pub fn correct(
             place: 0,
         };
     }
-    let reading = first_bad_reading(readings);
-    if reading < readings.len() {
+    let faults = faults::find_faults(readings, words);
+    let reading = faults.reading;
+    if let FirstFault::At(place) = reading {
         return Answer::Refused {
             number: refusal::READING,
-            place: reading,
+            place: place,
         };
     }
-    let word = first_bad_correction(words);
-    if word < words.len() {
+    let correction = faults.correction;
+    if let FirstFault::At(place) = correction {
         return Answer::Refused {
             number: refusal::CORRECTION,
-            place: word,
+            place: place,
         };
     }
     fill(readings, words, result);
     Answer::Done
-}
-
-// The place of the first reading that is too large, or the number of readings.
-fn first_bad_reading(readings: &[u16]) -> usize
-    ensures { λ r. ⌜ r ≡ firstOf badReading (now (readings .entry)) ⌝ }
-{
-    let mut i = 0;
-    while i < readings.len() {
-        if readings[i] > MAX_READING {
-            return i;
-        }
-        i += 1;
-    }
-    i
-}
-
-fn is_bad_correction(word: u16) -> bool
-    ensures { λ r. ⌜ r ≡ badCorrection word ⌝ }
-{
-    let correction = level::signed_correction(word);
-    if correction < MIN_CORRECTION {
-        return true;
-    }
-    correction > MAX_CORRECTION
-}
-
-// The place of the first correction out of bounds, or the number of words.
-fn first_bad_correction(words: &[u16]) -> usize
-    ensures { λ r. ⌜ r ≡ firstOf badCorrection (now (words .entry)) ⌝ }
-{
-    let mut i = 0;
-    while i < words.len() {
-        if is_bad_correction(words[i]) {
-            return i;
-        }
-        i += 1;
-    }
-    i
 }
 
 // One corrected level; within the bounds the sum has 16 bits.

@@ -119,7 +119,7 @@ fn refusals_of_the_table() -> Vec<i64> {
 fn limits() {
     let code = constants(&[
         "crates/plate/src/size.rt",
-        "crates/plate/src/correction.rt",
+        "crates/plate/src/faults.rt",
         "crates/plate/src/setting.rt",
     ]);
     let limit = |name: &str| name.starts_with("MAX_") || name.starts_with("MIN_");

@@ -1,12 +1,14 @@
-//! Filter and trace against the ordered queue and against one scan a level: the same plates, the same
-//! run, one thread. Times are processor time, so that other work on the machine counts little: the best
+//! Filter and trace against the ordered queue and against one scan a level, and the correction against
+//! two searches and a sum: the same plates, the same run, one thread. Times are processor time, so that other work on the machine counts little: the best
 //! of three calls, or one call where that takes over two seconds, with each method's own buffers (the
 //! library's are cleared first). The results are compared.
 //!
 //! `cargo run --release --bin bench [all]`: one scan a level is run where it ends in some seconds, and
 //! with `all` on every plate, which takes some minutes.
 use checking::random::{plate, Kind, Random};
-use checking::{engine, levels, queue, Plate, Setting};
+use checking::{engine, levels, queue, table, Plate, Setting};
+use diilvak::raw;
+use std::hint::black_box;
 
 /// The processor time that this process has taken, in seconds.
 fn processor_time() -> f64 {
@@ -98,6 +100,46 @@ fn awkward() {
     }
 }
 
+/// The correction of a plate without faults, beside one that searches the readings, then the words, and
+/// then adds: nanoseconds a pixel.
+fn correction() {
+    const TIMES: usize = 100;
+    let (width, height) = (256, 256);
+    let pixels = width * height;
+    let mut random = Random(256);
+    let readings: Vec<u16> = (0..pixels).map(|_| random.below(16_384) as u16).collect();
+    let words: Vec<u16> =
+        (0..pixels).map(|_| (random.below(32_768) as i32 - 16_384) as u16).collect();
+    let (mut corrected, mut sums) = (vec![0; pixels], vec![0; pixels]);
+    let (walk, _) = time(|| {
+        for _ in 0..TIMES {
+            let mut place = 0;
+            let refused =
+                raw::correct(width, height, &readings, &words, &mut corrected, &mut place);
+            assert_eq!(refused, 0);
+        }
+    });
+    let (searches, _) = time(|| {
+        for _ in 0..TIMES {
+            let (readings, words) = (black_box(&readings), black_box(&words));
+            table::correct(width, height, readings, words, pixels).expect("no faults");
+            for ((sum, &reading), &word) in sums.iter_mut().zip(readings).zip(words) {
+                *sum = (i32::from(reading) + table::signed(word)) as i16;
+            }
+        }
+    });
+    assert!(corrected == sums, "the library and the sum differ");
+    let each = |seconds: f64| seconds * 1e9 / (TIMES * pixels) as f64;
+    println!("\n| plate | correction, nanoseconds a pixel | two searches and a sum | ratio |");
+    println!("|---|---|---|---|");
+    println!(
+        "| {width} × {height} | {:.2} | {:.2} | {:.2} |",
+        each(walk),
+        each(searches),
+        searches / walk
+    );
+}
+
 fn main() {
     let all = std::env::args().any(|word| word == "all");
     let rows = [
@@ -139,4 +181,5 @@ fn main() {
         );
     }
     awkward();
+    correction();
 }

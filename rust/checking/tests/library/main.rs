@@ -1,6 +1,7 @@
 //! The library against the methods that share no code with it.
 mod buffers;
 mod calls;
+mod corrections;
 mod plates;
 mod refusals;
 mod steps;

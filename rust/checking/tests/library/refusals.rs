@@ -19,40 +19,6 @@ fn worked_refusals() {
     assert_eq!(number(engine::setting(set(8, 8, 1, 0)).map(|_| ())), 3);
 }
 
-/// A reading and a word by hand, and their level or their refusal: the edge words of section 7 with the
-/// bounds of document 02, N1, the edges of both, and what was refused before.
-#[test]
-fn worked_corrections() {
-    let refused = |number| Err(Refusal { number, place: 0 });
-    let worked = [
-        (16_383, 16_383, Ok(32_766)),
-        (0, 49_152, Ok(-16_384)),
-        (0, 16_383, Ok(16_383)),
-        (4096, 61_439, Ok(-1)),
-        (0, 49_151, refused(10)),
-        (0, 16_384, refused(10)),
-        (0, 32_768, refused(10)),
-        (16_384, 0, refused(9)),
-        (16_384, 16_384, refused(9)),
-    ];
-    for (reading, word, expected) in worked {
-        let found = engine::correct(1, 1, &[reading], &[word]).map(|plate| plate.levels()[0]);
-        assert_eq!(found, expected, "{reading} with {word}");
-    }
-}
-
-/// Every reading with the corrections at both bounds: the levels are -16,384 to 32,766 and no other.
-#[test]
-fn corrected_range() {
-    let readings: Vec<u16> = (0..=MAX_READING).collect();
-    let levels = |word| {
-        let plate = engine::correct(1024, 16, &readings, &[word; 1024 * 16]);
-        plate.expect("within the bounds").levels().to_vec()
-    };
-    assert!(levels(49_152).into_iter().eq(-16_384..=-1));
-    assert!(levels(16_383).into_iter().eq(16_383..=32_766));
-}
-
 /// A size: mostly a small one, else one at or past the limits.
 fn any_size(random: &mut Random) -> (usize, usize) {
     const SIDES: [usize; 8] = [0, 1, 257, 1024, 1025, 65_536, 1 << 32, usize::MAX];
@@ -140,25 +106,6 @@ fn refusals_follow_the_table() {
     assert_eq!(came_up(filters), [0, 1, 2, 3, 4, 5, 6, 7, 8]);
     assert_eq!(came_up(traces), [0, 1, 2, 3, 4, 5, 6, 7, 8, 11, 12]);
     assert_eq!(came_up(corrections), [0, 1, 6, 7, 9, 10]);
-}
-
-/// A bad reading late on the plate wins over a bad correction early on it, and the first place of
-/// either is reported.
-#[test]
-fn places_of_bad_readings_and_corrections() {
-    let mut random = Random(16);
-    let (mut readings, mut words) = (vec![16_383; 12], vec![49_152; 12]);
-    let mut refused = |readings: &[u16], words: &[u16]| {
-        correct_call(&mut random, (4, 3), readings, words, 12);
-        engine::correct(4, 3, readings, words).map(|_| ()).err()
-    };
-    assert_eq!(refused(&readings, &words), None);
-    words[7] = 32_768;
-    words[2] = 16_384;
-    assert_eq!(refused(&readings, &words), Some(Refusal { number: 10, place: 2 }));
-    readings[11] = 16_384;
-    readings[9] = 65_535;
-    assert_eq!(refused(&readings, &words), Some(Refusal { number: 9, place: 9 }));
 }
 
 /// The package takes exactly the sizes and settings that the table lets pass.

@@ -7,8 +7,8 @@ use mir.ValLaws.{toZ-ofZ}
 use Rattle.plate.specs.Limits.{minCorrection}
 use Rattle.plate.specs.Refusals.{badCorrection}
 use borrow.Author.Needs.{needs}
-use Rattle.plate.proofs.correction.is_bad_correction.Statement.{statement}
-use Rattle.plate.proofs.correction.is_bad_correction.Tie as tie
+use Rattle.plate.proofs.faults.is_bad_correction.Statement.{statement}
+use Rattle.plate.proofs.faults.is_bad_correction.Tie as tie
 
 signed-correction-requires : tie.Need-signed-correction-requires
 signed-correction-requires c κs = search needs
