@@ -2,3 +2,4 @@ pub mod RaiseLaws
 pub mod SweepLaws
 pub mod FinishLaws
 pub mod FilteredLaws
+pub mod SievingTwice

@@ -1,72 +1,25 @@
-// Tests the filter by document 01's worked plates (section 7): each prints its name and its filtered
-// levels; the file stdout beside src/ has what the paper says.
-use libc::STDOUT_FILENO;
-use plate::Answer;
+// Tests the filter by document 01's worked plates (section 7) and those of sieving twice (sieving.rt): each
+// prints its name and its filtered levels; the file stdout beside src/ has what the papers say.
+mod printing;
+mod settings;
+mod sieving;
+
+use crate::printing::print_plate;
+use crate::settings::ALL_FOUR;
+use crate::settings::CLOSING;
+use crate::settings::EAST;
+use crate::settings::NORTH;
+use crate::settings::NORTH_EAST;
+use crate::settings::OPENING;
+use crate::settings::SOUTH_EAST;
+use crate::settings::setting;
 use plate::Setting;
-
-const OPENING: usize = 0;
-
-const CLOSING: usize = 1;
-
-const NORTH: usize = 1;
-
-const EAST: usize = 2;
-
-const NORTH_EAST: usize = 4;
-
-const SOUTH_EAST: usize = 8;
-// where the paper names no way
-const ALL_FOUR: usize = 15;
 
 fn main() {
     one_pixel();
     row_of_four();
     two_rows();
-}
-
-fn setting(mode: usize, directions: usize, length: usize, gaps: usize) -> Setting {
-    Setting {
-        length,
-        gaps,
-        directions,
-        mode,
-    }
-}
-
-// A level in decimal, by its key: how far it stands above -32,768.
-fn print_level(v: i16) {
-    let key = plate::key_of(v) as u64;
-    if key < 32768 {
-        io::write_all(STDOUT_FILENO, b"-");
-        io::print_decimal(STDOUT_FILENO, 32768 - key);
-    } else {
-        io::print_decimal(STDOUT_FILENO, key - 32768);
-    }
-}
-
-// "NAME: level,level,.." or "NAME: refused NUMBER", and a newline.
-fn print_plate(name: &[u8], answer: Answer, levels: &[i16]) {
-    io::write_all(STDOUT_FILENO, name);
-    io::write_all(STDOUT_FILENO, b": ");
-    match answer {
-        Answer::Done => print_levels(levels),
-        Answer::Refused { number, place: _ } => {
-            io::write_all(STDOUT_FILENO, b"refused ");
-            io::print_decimal(STDOUT_FILENO, number as u64);
-        }
-    }
-    io::write_all(STDOUT_FILENO, b"\n");
-}
-
-fn print_levels(levels: &[i16]) {
-    let mut i = 0;
-    while i < levels.len() {
-        if 0 < i {
-            io::write_all(STDOUT_FILENO, b",");
-        }
-        print_level(levels[i]);
-        i += 1;
-    }
+    sieving::sieve_rows();
 }
 
 fn filter_one(name: &[u8], level: i16, s: Setting) {

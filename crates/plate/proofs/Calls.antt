@@ -1,14 +1,14 @@
 -- Checks 1 to 8 of a call: which of them decide, and what holds once all have passed.
-use Prim.Native.Nat.{ℕ, _+_, _*_, _≤_}
+use Prim.Native.Nat.{ℕ, _+_, _*_, _≤_, _<_}
 use mathlib.Core.Path.{_≡_, sym}
 use mathlib.Core.Bool.{false}
 use mathlib.Core.List.{List, [], _∷_}
 use native.Mathlib.Omega.{arith}
 use lib.Dec.{eqb, ltb, leb}
-use borrow.Author.Tests.{eqb-true, eqb-false, ltb-false, not-false}
+use borrow.Author.Tests.{eqb-true, eqb-false, ltb-false, leb-false, not-false}
 use Rattle.basics.proofs.Tests.{or-false-left, or-false-right}
 use Rattle.plate.specs.Limits.{maxLength, maxGaps}
-use Rattle.plate.specs.Refusals.{Verdict.accepted, Verdict.refused, Check, judged, Clear, badSize, badLength, badGaps, sizeCheck, settingChecks, settingVerdict, inputCheck, resultCheck, workCheck, filterChecks}
+use Rattle.plate.specs.Refusals.{Verdict.accepted, Verdict.refused, Check, judged, Clear, badSize, badLength, badGaps, sizeCheck, settingChecks, settingVerdict, inputCheck, resultCheck, workCheck, filterChecks, filterVerdict}
 use Rattle.plate.specs.Calls.{Passed}
 use Rattle.plate.specs.Answers.{wantedFor, callVerdict}
 use Rattle.plate.specs.declared.setting.Setting.{Setting}
@@ -51,13 +51,22 @@ module _ (s : Setting) (clear : Clear (settingChecks s)) where
   unfolding badGaps
   few-gaps = ltb-false maxGaps (s .gaps) (or-false-left (ltb maxGaps (s .gaps)) (leb (s .length) (s .gaps)) (clear .1 .0))
 
+  gaps-below : s .gaps < s .length
+  unfolding badGaps
+  gaps-below = leb-false (s .length) (s .gaps) (or-false-right (ltb maxGaps (s .gaps)) (leb (s .length) (s .gaps)) (clear .1 .0))
+
 -- ---- what holds once all have passed
+
+-- those of the setting among them
+setting-passed : (W H : ℕ) (s : Setting) (plate wanted result work : ℕ) → Clear (filterChecks W H s plate wanted result work) → Clear (settingChecks s)
+setting-passed W H s plate wanted result work clear =
+    let setting = clear .1 in
+    (setting .0, (setting .1 .0, (setting .1 .1 .0, (setting .1 .1 .1 .0, tt))))
 
 pub passed : (W H : ℕ) (s : Setting) (plate wanted result work : ℕ) → Clear (filterChecks W H s plate wanted result work) → Passed W H s plate wanted result work
 passed W H s plate wanted result work clear =
-    let setting = clear .1 in
-    let buffers = setting .1 .1 .1 .1 in
-    let valid : Clear (settingChecks s) = (setting .0, (setting .1 .0, (setting .1 .1 .0, (setting .1 .1 .1 .0, tt)))) in
+    let buffers = clear .1 .1 .1 .1 .1 in
+    let valid = setting-passed W H s plate wanted result work clear in
     record {
       size = good-size W H (clear .0);
       long = some-length s valid;
@@ -74,3 +83,10 @@ call-clear W H s lent e = accepted-clear (filterChecks W H s (lent .input) (want
 
 pub call-passed : (W H : ℕ) (s : Setting) (lent : Lent) → accepted tt ≡ callVerdict W H s lent → Passed W H s (lent .input) (wantedFor (W * H) (s .length) (lent .fills)) (lent .filled) (lent .work)
 call-passed W H s lent e = passed W H s (lent .input) (wantedFor (W * H) (s .length) (lent .fills)) (lent .filled) (lent .work) (call-clear W H s lent e)
+
+-- a filter that was accepted has let k through only below L
+pub filter-gaps-below : (W H : ℕ) (s : Setting) (plate result work : ℕ) → accepted tt ≡ filterVerdict W H s plate result work → s .gaps < s .length
+unfolding filterVerdict
+filter-gaps-below W H s plate result work e =
+    let clear = accepted-clear (filterChecks W H s plate (W * H) result work) tt tt (sym e) .1 in
+    gaps-below s (setting-passed W H s plate (W * H) result work clear)

@@ -5,18 +5,15 @@ use Prim.Native.Nat.{ℕ, _*_, _<_}
 use mathlib.Core.Path.{_≡_, sym, _∙_}
 use mathlib.Core.List.{List, List·Memᴰ}
 use mathlib.Core.Logic.{⊎-elim}
-use native.Mathlib.Omega.{arith}
-use lib.Seq.{ext-getD}
 use lib.IntN.{ℤ}
 use lib.Signed.{mag, ltZ, _≤ℤ_, ≤ℤ-refl}
 use Rattle.basics.proofs.Order.{lt-or-le, ≤ℤ-<ℤ-trans, ≤ℤ-antisym, lt-ltZ, le-ltZ}
-use Rattle.plate.specs.Levels.{lowest}
 use Rattle.plate.specs.Opening.{levelAt, openedAt, opened}
 use Rattle.plate.specs.declared.setting.Setting.{Setting}
 use Rattle.theory.specs.Modes.{Levels}
 use Rattle.plate.proofs.Keys.{lowest-le}
 use Rattle.theory.proofs.Admission.{admits-by-below}
-use Rattle.theory.proofs.Opening.{Counts, recounted, counts-along, counts-on, opened-length, levelAt-opened, openedAt-size, opened-levels, opened-below-own, opened-counts-or-lowest, opened-highest}
+use Rattle.theory.proofs.Opening.{Counts, recounted, counts-along, counts-on, opened-same, levelAt-opened, openedAt-size, opened-levels, opened-below-own, opened-counts-or-lowest, opened-highest}
 
 module _ (s : Setting) (W H : ℕ) (f : List ℤ) (l : Levels f) where
   -- a pixel of a path that counts at t is below t before exactly if it is after
@@ -45,8 +42,4 @@ module _ (s : Setting) (W H : ℕ) (f : List ℤ) (l : Levels f) where
       ≤ℤ-antisym (openedAt s W H g x) t (rw e at (opened-below-own s W H g lg x)) up
 
   pub opened-idempotent : opened s W H (opened s W H f) ≡ opened s W H f
-  opened-idempotent =
-      let g = opened s W H f in
-      ext-getD lowest (opened s W H g) g (opened-length s W H g ∙ sym (opened-length s W H f))
-      (λ x h. let on : x < W * H = omega (arith, opened-length s W H g) in
-      levelAt-opened s W H g x on ∙ openedAt-again x on ∙ sym (levelAt-opened s W H f x on))
+  opened-idempotent = opened-same s s W H (opened s W H f) f openedAt-again

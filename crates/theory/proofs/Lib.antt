@@ -16,6 +16,8 @@ pub mod Admission
 pub mod Opening
 pub mod Idempotent
 pub mod Mirror
+pub mod Longer
+pub mod SievingTwice
 -- the decomposition
 pub mod Maxima
 pub mod LevelSets

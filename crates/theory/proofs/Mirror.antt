@@ -1,7 +1,7 @@
 -- Both modes at once. With `asMode s`, which leaves a level as it is in mode 0 and mirrors it else, filtering is: turn every level, open, turn
 -- back. So each law of the opening is one of the filter, said of turned levels.
 use Prim.Native.Nat.{ℕ, _*_, _<_}
-use mathlib.Core.Path.{_≡_, sym, ap, fun-ext, _∙_}
+use mathlib.Core.Path.{_≡_, refl, sym, ap, fun-ext, _∙_}
 use mathlib.Core.Bool.{true, false, cond}
 use mathlib.Core.List.{List, map, map-id}
 use mathlib.Core.Logic.{⊎-elim}
@@ -81,15 +81,6 @@ module _ (s : Setting) where
     filtered-levels f l =
         rw (filtered-as-mode f) (turned-levels (opened s W H (map (asMode s) f)) (opened-levels s W H (map (asMode s) f) (turned-levels f l)))
 
-    pub filtered-idempotent : (f : List ℤ) → Levels f → filtered s W H (filtered s W H f) ≡ filtered s W H f
-    filtered-idempotent f l =
-        let g = opened s W H (map (asMode s) f) in
-        let twice : filtered s W H (map (asMode s) g) ≡ map (asMode s) g =
-        filtered-as-mode (map (asMode s) g)
-        ∙ ap (λ (h : List ℤ). map (asMode s) (opened s W H h)) (map-undone (asMode s) turned-turned g)
-        ∙ ap (map (asMode s)) (opened-idempotent s W H (map (asMode s) f) (turned-levels f l)) in
-        rw (filtered-as-mode f) twice
-
     -- ---- of plates with exactly W × H levels
 
     module _ (f : List ℤ) (room : length f ≡ W * H) (l : Levels f) where
@@ -130,3 +121,22 @@ module _ (s : Setting) where
         (λ e. turned-keeps e (opened-as-mode-monotone f g rf rg lf lg (λ p j. turned-keeps e (h p j)) x i))
         (λ e. turned-reverses e (opened-as-mode-monotone g f rg rf lg lf (λ p j. turned-reverses e (h p j)) x i))
         (true-or-false (eqb (s .mode) 0)))
+
+-- ---- filtering twice
+
+-- by two settings of one mode, s′ first, is opening by both
+pub filtered-twice :
+    (s s′ : Setting) (W H : ℕ) → asMode s′ ≡ asMode s → (f : List ℤ) →
+    filtered s W H (filtered s′ W H f) ≡ map (asMode s) (opened s W H (opened s′ W H (map (asMode s) f)))
+filtered-twice s s′ W H same f =
+    let g = opened s′ W H (map (asMode s) f) in
+    let first : filtered s′ W H f ≡ map (asMode s) g = rw same at (filtered-as-mode s′ W H f) in
+    ap (filtered s W H) first
+    ∙ filtered-as-mode s W H (map (asMode s) g)
+    ∙ ap (λ (h : List ℤ). map (asMode s) (opened s W H h)) (map-undone (asMode s) (turned-turned s) g)
+
+pub filtered-idempotent : (s : Setting) (W H : ℕ) (f : List ℤ) → Levels f → filtered s W H (filtered s W H f) ≡ filtered s W H f
+filtered-idempotent s W H f l =
+    filtered-twice s s W H refl f
+    ∙ ap (map (asMode s)) (opened-idempotent s W H (map (asMode s) f) (turned-levels s f l))
+    ∙ sym (filtered-as-mode s W H f)

@@ -8,6 +8,7 @@ use mathlib.Core.Logic.{_⊎_, inl, inr, ⊎-elim}
 use native.Mathlib.Omega.{arith}
 use lib.Dec.{T}
 use lib.ListN.{length, length-map, List·getD-eq-default}
+use lib.Seq.{ext-getD}
 use lib.IntN.{ℤ}
 use lib.Signed.{mag, _≤ℤ_}
 use Rattle.basics.proofs.Numbers.{le-or-lt}
@@ -138,3 +139,11 @@ module _ (s : Setting) (W H : ℕ) where
       ⊎-elim
       (λ c. opened-highest g lg x (openedAt s W H f x) (openedAt-size f lf x) (≤ℤ-trans (opened-below-own f lf x) (h x hx)) (counts-monotone f g h c))
       (λ e. rw e (lowest-le (openedAt s W H g x) (openedAt-size g lg x))) (opened-counts-or-lowest f x)
+
+-- two openings with the same level at every pixel are the same plate
+pub opened-same :
+    (s s′ : Setting) (W H : ℕ) (f g : List ℤ) → ((x : ℕ) → x < W * H → openedAt s W H f x ≡ openedAt s′ W H g x) → opened s W H f ≡ opened s′ W H g
+opened-same s s′ W H f g h =
+    ext-getD lowest (opened s W H f) (opened s′ W H g) (opened-length s W H f ∙ sym (opened-length s′ W H g))
+    (λ x i. let on : x < W * H = omega (arith, opened-length s W H f) in
+    levelAt-opened s W H f x on ∙ h x on ∙ sym (levelAt-opened s′ W H g x on))

@@ -1,5 +1,6 @@
--- what a reader has to believe: demand 3, and the worked plates
+-- what a reader has to believe: demand 3, sieving twice, and the worked plates
 pub mod Trace
+pub mod SievingTwice
 pub mod WorkedPlates
 -- what serves the engine's inner contracts and the laws
 pub mod Walks

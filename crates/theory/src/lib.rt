@@ -14,6 +14,8 @@
 //                      monotone in the plate
 //   Idempotent         opening twice is opening once
 //   Mirror             all these carry over to mode 1, by one lemma on the mirror (filtered-as-mode)
+//   Longer             a longer length keeps no more
+//   SievingTwice       filtering by two lengths is one filtering by the larger
 //   Maxima, LevelSets  the level-set lemma: the recursion over keys finds just the walks that are there
 //   Splitting          the splitting lemma: a walk through a pixel by its two halves, whose counts add up
 //   Decomposition      the decomposition: the best pair of halves is the opened level

@@ -48,11 +48,16 @@ pub fn small_case(random: &mut Random) -> (Plate, Setting) {
         3 => (random.within(2, 9), 2),
         _ => (random.within(1, 6), random.within(1, 6)),
     };
-    let thin = width == 1 || height == 1;
-    let length = if thin { random.within(1, width + height) } else { random.within(1, 10) };
+    let length = small_length(random, width, height);
     let gaps = random.below(length.min(9));
     let setting = Setting::new(length, gaps, random.within(1, 15), random.below(2));
     (small_plate(random, width, height), setting)
+}
+
+/// A length at which all paths of such a plate can be listed, or that it has no path of.
+pub fn small_length(random: &mut Random, width: usize, height: usize) -> usize {
+    let thin = width == 1 || height == 1;
+    random.within(1, if thin { width + height } else { 10 })
 }
 
 fn small_plate(random: &mut Random, width: usize, height: usize) -> Plate {

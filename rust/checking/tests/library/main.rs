@@ -4,4 +4,5 @@ mod calls;
 mod corrections;
 mod plates;
 mod refusals;
+mod sieving;
 mod steps;

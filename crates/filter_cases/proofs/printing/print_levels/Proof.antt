@@ -2,8 +2,8 @@
 use borrow.Author.Needs.{needs}
 use Prim.Native.Nat.{_-_, _≤_}
 use lib.ListN.{length}
-use Rattle.filter_cases.proofs.print_levels.Statement.{statement}
-use Rattle.filter_cases.proofs.print_levels.Tie as tie
+use Rattle.filter_cases.proofs.printing.print_levels.Statement.{statement}
+use Rattle.filter_cases.proofs.printing.print_levels.Tie as tie
 
 abbrev Inv-loop : tie.InvT-loop
 Inv-loop levels i₀ t3 i = i ≤ length levels
