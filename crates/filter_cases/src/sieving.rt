@@ -1,5 +1,6 @@
 // Sieving twice (document 02, N2): worked rows, filtered to the east by one length, by another, and by both
-// in either order. What two filterings come to is not only printed: it is the contract of sieve_twice.
+// in either order. What two filterings come to is not only printed: it is the contract of sieve_twice. The
+// papers do not give the closing by 2 alone; that line is the listing's (rust/checking).
 ghost use Prim.Native.Nat.{max};
 ghost use mathlib.Core.Path.{_≡_};
 ghost use Rattle.plate.specs.Answers.{resultAfter};

@@ -16,7 +16,8 @@ fn sieve(plate: &Plate, setting: Setting, other: usize, by_larger: &Plate, case:
     }
 }
 
-/// The worked rows to the east: by K alone where the papers give it, and by both.
+/// The worked rows to the east: by K alone, which is the listing's where the papers do not give it, and by
+/// both.
 #[test]
 fn worked_sieves() {
     let q: &[i16] = &[9, 5, 12, 8];
@@ -34,9 +35,9 @@ fn worked_sieves() {
         let row = |levels: &[i16]| Plate::new(levels.len(), 1, levels.to_vec()).unwrap();
         let setting = Setting::new(short, gaps, EAST, mode);
         let case = format!("{levels:?} {setting:?} and {long}");
-        if let Some(by_short) = by_short {
-            assert_eq!(engine::filter(&row(levels), setting), Ok(row(by_short)), "{case}");
-        }
+        let listed = || listing::filter(&row(levels), setting);
+        let by_short = by_short.map_or_else(listed, row);
+        assert_eq!(engine::filter(&row(levels), setting), Ok(by_short), "{case}");
         let by_long = Setting { length: long, ..setting };
         assert_eq!(engine::filter(&row(levels), by_long), Ok(row(by_both)), "{case}");
         sieve(&row(levels), setting, long, &row(by_both), &case);
