@@ -8,7 +8,8 @@
 #include <stdlib.h>
 
 enum { WIDTH = 4, HEIGHT = 1, PIXELS = WIDTH * HEIGHT };
-enum { LENGTH = 4, GAPS = 1, DIRECTIONS = DIILVAK_EAST, MODE = DIILVAK_OPENING, AT = 0 };
+enum { LENGTH = 4, GAPS = 1, DIRECTIONS = DIILVAK_EAST, MODE = DIILVAK_OPENING };
+enum { ENDS = DIILVAK_ENDS_ANYWHERE, AT = 0 };
 
 /* 65534 is the correction -2: the second pixel has the level 5. */
 static const uint16_t readings[PIXELS] = {9, 7, 12, 8};
@@ -42,7 +43,7 @@ int main(void)
     if (work == NULL)
         return EXIT_FAILURE;
 
-    number = diilvak_filter(WIDTH, HEIGHT, plate, PIXELS, LENGTH, GAPS, DIRECTIONS, MODE,
+    number = diilvak_filter(WIDTH, HEIGHT, plate, PIXELS, LENGTH, GAPS, DIRECTIONS, MODE, ENDS,
                             opened, PIXELS, work, work_len);
     if (number == DIILVAK_DONE) {
         printf("width=%d\nheight=%d\n", WIDTH, HEIGHT);
@@ -50,8 +51,8 @@ int main(void)
             for (int column = 0; column < WIDTH; column++)
                 printf("%s%d%s", column == 0 ? "out=" : ",", opened[row * WIDTH + column],
                        column == WIDTH - 1 ? "\n" : "");
-        number = diilvak_trace(WIDTH, HEIGHT, plate, PIXELS, LENGTH, GAPS, DIRECTIONS, MODE, AT,
-                               path, LENGTH, work, work_len, &direction, &level);
+        number = diilvak_trace(WIDTH, HEIGHT, plate, PIXELS, LENGTH, GAPS, DIRECTIONS, MODE, ENDS,
+                               AT, path, LENGTH, work, work_len, &direction, &level);
     }
     free(work);
     if (number != DIILVAK_DONE)

@@ -35,28 +35,35 @@
  *     gaps         k, how many pixels of a path may be missing, 0 to 8 and less than L
  *     directions   the set of directions, 1 to 15
  *     mode         0 opening (light cracks), 1 closing (dark cracks)
+ *     ends         0 the ends of a path may be missing too, 1 they may not: a crack ends on crack
  *
  * Opening: the new level of a pixel is the highest level t, not above its own, such that some path of
- * length L through it, in one of the directions, has at most k pixels below t. Those k may be any
- * pixels of the path, its ends too. Where no path of length L goes through the pixel at all, the new
- * level is -32768.
+ * length L through it, in one of the directions, counts at t: at most k of its pixels are below t, and
+ * with ends 1 its first pixel and its last are none of those. (A path of length 1 has one pixel that
+ * is both.) Where no path of length L goes through the pixel at all, the new level is -32768.
  *
  * Closing: every level v is mirrored to -1 - v, the plate is opened, and mirrored back. So the new
  * level is the lowest t, not below the pixel's own, such that some path has at most k pixels above t,
- * and 32767 where there is no path.
+ * with ends 1 neither end among them, and 32767 where there is no path.
+ *
+ * Example: the row 5, 9, 12, 8, opened with length 4, gaps 1 and direction east, is 5, 8, 8, 8 with ends
+ * 0, where the first pixel is the gap, and 5, 5, 5, 5 with ends 1. Filtering twice by one setting is
+ * filtering once. Filtering by two lengths is filtering by the larger of them with ends 0, and need not
+ * be with ends 1.
  *
  *
  * REFUSALS
  *
  * Every function answers every input. diilvak_check_setting, diilvak_correct, diilvak_filter and
  * diilvak_trace return 0 where the call is done, and otherwise the number of the first cause in this
- * table that applies to the call:
+ * table that applies to the call (18 is the newest, and stands where it is judged):
  *
  *     1   width or height is 0 or above 1024, or width * height is above 65536
  *     2   length is 0 or above 1024
  *     3   gaps is above 8, or not less than length
  *     4   directions is 0 or above 15
  *     5   mode is above 1
+ *     18  ends is above 1
  *     6   an input buffer does not have exactly width * height numbers
  *     7   the result does not have exactly width * height numbers, or the path not exactly length
  *     8   the work buffer has less than 4 * (gaps + 1) * width * height numbers
@@ -99,8 +106,8 @@
 extern "C" {
 #endif
 
-/* The version of this header, 0.3.0, as one number: major * 10000 + minor * 100 + patch. */
-#define DIILVAK_VERSION 300
+/* The version of this header, 0.4.0, as one number: major * 10000 + minor * 100 + patch. */
+#define DIILVAK_VERSION 400
 
 /* Limits. */
 #define DIILVAK_MAX_SIDE 1024
@@ -112,6 +119,7 @@ extern "C" {
 #define DIILVAK_MAX_GAPS 8
 #define DIILVAK_MAX_DIRECTIONS 15
 #define DIILVAK_MAX_MODE 1
+#define DIILVAK_MAX_ENDS 1
 
 /* Bytes of stack in which a call finds room. */
 #define DIILVAK_FILTER_STACK 196608
@@ -127,6 +135,10 @@ extern "C" {
 #define DIILVAK_OPENING 0
 #define DIILVAK_CLOSING 1
 
+/* Where a path may end. */
+#define DIILVAK_ENDS_ANYWHERE 0
+#define DIILVAK_ENDS_ON_CRACK 1
+
 /* Done, and the refusals of the table above. */
 #define DIILVAK_DONE 0
 #define DIILVAK_BAD_SIZE 1
@@ -141,6 +153,7 @@ extern "C" {
 #define DIILVAK_BAD_CORRECTION 10
 #define DIILVAK_BAD_PLACE 11
 #define DIILVAK_NO_PATH 12
+#define DIILVAK_BAD_ENDS 18
 
 /* The version of the library: DIILVAK_VERSION as it was when the library was built.
  *
@@ -150,10 +163,10 @@ size_t diilvak_version(void);
 
 /* Judges a setting.
  *
- * Returns 0 where it is within the limits, and otherwise 2, 3, 4 or 5. Nothing is written. Every other
- * function judges its setting itself: this one is for telling a user early.
+ * Returns 0 where it is within the limits, and otherwise 2, 3, 4, 5 or 18. Nothing is written. Every
+ * other function judges its setting itself: this one is for telling a user early.
  */
-size_t diilvak_check_setting(size_t length, size_t gaps, size_t directions, size_t mode);
+size_t diilvak_check_setting(size_t length, size_t gaps, size_t directions, size_t mode, size_t ends);
 
 /* How many numbers the work buffer of a filter or a trace needs: 4 * (gaps + 1) * width * height.
  *
@@ -197,6 +210,7 @@ size_t diilvak_correct(size_t width, size_t height,
  *     3    gaps is above 8, or not less than length
  *     4    directions is 0 or above 15
  *     5    mode is above 1
+ *     18   ends is above 1
  *     6    plate_len is not width * height
  *     7    result_len is not width * height
  *     8    work_len is less than 4 * (gaps + 1) * width * height
@@ -208,7 +222,7 @@ size_t diilvak_correct(size_t width, size_t height,
  */
 size_t diilvak_filter(size_t width, size_t height,
                       const int16_t *plate, size_t plate_len,
-                      size_t length, size_t gaps, size_t directions, size_t mode,
+                      size_t length, size_t gaps, size_t directions, size_t mode, size_t ends,
                       int16_t *result, size_t result_len,
                       uint16_t *work, size_t work_len);
 
@@ -225,7 +239,8 @@ size_t diilvak_filter(size_t width, size_t height,
  *   - path holds the length places of a path through at, in walking order, every step of it a step of
  *     the one direction whose bit is in *direction, which is one of directions;
  *   - *level is the level that diilvak_filter, by the same setting, gives that pixel;
- *   - in mode 0 at most gaps pixels of the path are below *level, in mode 1 at most gaps are above it.
+ *   - in mode 0 at most gaps pixels of the path are below *level, in mode 1 at most gaps are above it;
+ *     with ends 1 its first pixel and its last are none of those.
  * Of several such paths any may be shown. Tracing the filtered plate at the same place, by the same
  * setting, is done too, and gives the same level.
  *
@@ -235,6 +250,7 @@ size_t diilvak_filter(size_t width, size_t height,
  *     3    gaps is above 8, or not less than length
  *     4    directions is 0 or above 15
  *     5    mode is above 1
+ *     18   ends is above 1
  *     6    plate_len is not width * height
  *     7    path_len is not length
  *     8    work_len is less than 4 * (gaps + 1) * width * height
@@ -243,12 +259,13 @@ size_t diilvak_filter(size_t width, size_t height,
  * in this order. A refused call leaves path, work, *direction and *level as they were; after a call
  * that is done, what work holds is of no use. plate is only read.
  *
- * Refusal 12 does not depend on the pixel: it is given exactly where length is larger than any path of
- * the directions (north: height; east: width; north-east and south-east: width + height - 1).
+ * Refusal 12 does not depend on the pixel, nor on gaps, mode or ends: it is given exactly where length
+ * is larger than any path of the directions (north: height; east: width; north-east and south-east:
+ * width + height - 1).
  */
 size_t diilvak_trace(size_t width, size_t height,
                      const int16_t *plate, size_t plate_len,
-                     size_t length, size_t gaps, size_t directions, size_t mode,
+                     size_t length, size_t gaps, size_t directions, size_t mode, size_t ends,
                      size_t at,
                      size_t *path, size_t path_len,
                      uint16_t *work, size_t work_len,

@@ -1,7 +1,7 @@
 // Tests the calls that need no engine, by document 01's cases: making a setting, correcting a plate,
 // stepping a walker. There are the edge words and gap counts of section 7 with the bounds of document
-// 02, N1, one case for each refusal number of section 5 that these calls have, what the walk of document
-// 02, N4 holds after each pixel, and the directions' steps of section 2. Each case prints its name and what
+// 02, N1, one case for each refusal number of section 5 that these calls have and for N5's, what the walk
+// of document 02, N4 holds after each pixel, and the directions' steps of section 2. Each case prints its name and what
 // came back; the file stdout beside src/ has what the papers say.
 use libc::STDOUT_FILENO;
 use plate::Answer;
@@ -81,18 +81,21 @@ fn edge_readings() {
 }
 
 fn gap_counts() {
-    print_made(b"gaps 8 length 9", Setting::new(9, 8, 15, 0));
-    print_made(b"gaps 8 length 8", Setting::new(8, 8, 15, 0));
+    print_made(b"gaps 8 length 9", Setting::new(9, 8, 15, 0, 0));
+    print_made(b"gaps 8 length 8", Setting::new(8, 8, 15, 0, 0));
 }
 
 fn setting_refusals() {
-    print_made(b"length 0", Setting::new(0, 0, 15, 0));
-    print_made(b"length 1025", Setting::new(1025, 0, 15, 0));
-    print_made(b"gaps 9", Setting::new(20, 9, 15, 0));
-    print_made(b"ways 0", Setting::new(4, 0, 0, 0));
-    print_made(b"ways 16", Setting::new(4, 0, 16, 0));
-    print_made(b"mode 2", Setting::new(4, 0, 15, 2));
-    print_made(b"all wrong", Setting::new(0, 9, 16, 2));
+    print_made(b"length 0", Setting::new(0, 0, 15, 0, 0));
+    print_made(b"length 1025", Setting::new(1025, 0, 15, 0, 0));
+    print_made(b"gaps 9", Setting::new(20, 9, 15, 0, 0));
+    print_made(b"ways 0", Setting::new(4, 0, 0, 0, 0));
+    print_made(b"ways 16", Setting::new(4, 0, 16, 0, 0));
+    print_made(b"mode 2", Setting::new(4, 0, 15, 2, 0));
+    print_made(b"ends 1", Setting::new(4, 0, 15, 0, 1));
+    print_made(b"ends 2", Setting::new(4, 0, 15, 0, 2));
+    print_made(b"mode 2 ends 2", Setting::new(4, 0, 15, 2, 2));
+    print_made(b"all wrong", Setting::new(0, 9, 16, 2, 2));
 }
 
 fn size_refusals() {

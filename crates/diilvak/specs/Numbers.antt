@@ -8,13 +8,12 @@ use lib.IntN.{ℤ}
 use Rattle.plate.specs.Limits.{maxGaps}
 use Rattle.plate.specs.Refusals.{Verdict, Verdict.accepted, Verdict.refused, badSize}
 use Rattle.plate.specs.declared.setting.Setting.{Setting}
-use Rattle.plate.specs.declared.walker.Walker.{Walker}
 use Rattle.plate.specs.declared.walker.Moved.{Moved}
 use Rattle.plate.specs.declared.walker.Moved.the-variants.{To, Leaves}
 
--- a setting of four numbers
-abbrev pub settingOf : ℕ → ℕ → ℕ → ℕ → Setting
-settingOf L k directions mode = record { length = L; gaps = k; directions = directions; mode = mode }
+-- a setting of five numbers
+abbrev pub settingOf : ℕ → ℕ → ℕ → ℕ → ℕ → Setting
+settingOf L k directions mode ends = record { length = L; gaps = k; directions = directions; mode = mode; ends = ends }
 
 -- the result of a call
 abbrev pub numberOf : {A : Type 0} → Verdict A → ℕ

@@ -19,8 +19,8 @@ use plate::Setting;
 use plate::Traced;
 use plate::Walker;
 
-// This version, 0.3.0, as one number: major * 10000 + minor * 100 + patch.
-const VERSION: usize = 300;
+// This version, 0.4.0, as one number: major * 10000 + minor * 100 + patch.
+const VERSION: usize = 400;
 
 // The version that a program runs with, for callers to hold to that of their header.
 #[no_mangle]
@@ -30,17 +30,18 @@ pub extern "C" fn diilvak_version() -> usize
     VERSION
 }
 
-// 0, or the refusal of the setting: 2 to 5.
+// 0, or the refusal of the setting: 2 to 5, 18.
 #[no_mangle]
 pub extern "C" fn diilvak_check_setting(
     length: usize,
     gaps: usize,
     directions: usize,
     mode: usize,
+    ends: usize,
 ) -> usize
-    ensures { λ r. ⌜ r ≡ numberOf (settingVerdict (settingOf length gaps directions mode)) ⌝ }
+    ensures { λ r. ⌜ r ≡ numberOf (settingVerdict (settingOf length gaps directions mode ends)) ⌝ }
 {
-    let made = Setting::new(length, gaps, directions, mode);
+    let made = Setting::new(length, gaps, directions, mode, ends);
     match made {
         Made::Valid(_) => 0,
         Made::Refused { number, place: _ } => number,
@@ -128,18 +129,20 @@ pub extern "C" fn diilvak_filter(
     gaps: usize,
     directions: usize,
     mode: usize,
+    ends: usize,
     result: &mut [i16],
     work: &mut [u16],
 ) -> usize
-    ensures { λ r. ⌜ r ≡ numberOf (filterVerdict width height (settingOf length gaps directions mode) (size (now (plate .entry))) (size (now (result .entry))) (size (now (work .entry)))) ⌝ }
-    ensures { λ r. ⌜ now (result .exit) ≡ lentAfter (filterVerdict width height (settingOf length gaps directions mode) (size (now (plate .entry))) (size (now (result .entry))) (size (now (work .entry)))) (filtered (settingOf length gaps directions mode) width height (now (plate .entry))) (now (result .entry)) ⌝ }
-    ensures { λ r. ⌜ freeAfter (filterVerdict width height (settingOf length gaps directions mode) (size (now (plate .entry))) (size (now (result .entry))) (size (now (work .entry)))) (now (work .entry)) (now (work .exit)) ⌝ }
+    ensures { λ r. ⌜ r ≡ numberOf (filterVerdict width height (settingOf length gaps directions mode ends) (size (now (plate .entry))) (size (now (result .entry))) (size (now (work .entry)))) ⌝ }
+    ensures { λ r. ⌜ now (result .exit) ≡ lentAfter (filterVerdict width height (settingOf length gaps directions mode ends) (size (now (plate .entry))) (size (now (result .entry))) (size (now (work .entry)))) (filtered (settingOf length gaps directions mode ends) width height (now (plate .entry))) (now (result .entry)) ⌝ }
+    ensures { λ r. ⌜ freeAfter (filterVerdict width height (settingOf length gaps directions mode ends) (size (now (plate .entry))) (size (now (result .entry))) (size (now (work .entry)))) (now (work .entry)) (now (work .exit)) ⌝ }
 {
     let setting = Setting {
         length: length,
         gaps: gaps,
         directions: directions,
         mode: mode,
+        ends: ends,
     };
     let answer = engine::filter(width, height, plate, setting, result, work);
     match answer {
@@ -159,21 +162,23 @@ pub extern "C" fn diilvak_trace(
     gaps: usize,
     directions: usize,
     mode: usize,
+    ends: usize,
     at: usize,
     path: &mut [usize],
     work: &mut [u16],
     direction: &mut usize,
     level: &mut i16,
 ) -> usize
-    ensures { λ r. ⌜ r ≡ numberOf (traceVerdict width height (settingOf length gaps directions mode) (now (plate .entry)) at (size (now (path .entry))) (size (now (work .entry)))) ⌝ }
-    ensures { λ r. ⌜ now (level .exit) ≡ levelAfter (traceVerdict width height (settingOf length gaps directions mode) (now (plate .entry)) at (size (now (path .entry))) (size (now (work .entry)))) (now (level .entry)) ⌝ }
-    ensures { λ r. ⌜ shownAfter (traceVerdict width height (settingOf length gaps directions mode) (now (plate .entry)) at (size (now (path .entry))) (size (now (work .entry)))) (Shows (settingOf length gaps directions mode) width height (now (plate .entry)) at) (now (direction .entry)) (now (direction .exit)) (now (path .entry)) (now (path .exit)) (now (work .entry)) (now (work .exit)) ⌝ }
+    ensures { λ r. ⌜ r ≡ numberOf (traceVerdict width height (settingOf length gaps directions mode ends) (now (plate .entry)) at (size (now (path .entry))) (size (now (work .entry)))) ⌝ }
+    ensures { λ r. ⌜ now (level .exit) ≡ levelAfter (traceVerdict width height (settingOf length gaps directions mode ends) (now (plate .entry)) at (size (now (path .entry))) (size (now (work .entry)))) (now (level .entry)) ⌝ }
+    ensures { λ r. ⌜ shownAfter (traceVerdict width height (settingOf length gaps directions mode ends) (now (plate .entry)) at (size (now (path .entry))) (size (now (work .entry)))) (Shows (settingOf length gaps directions mode ends) width height (now (plate .entry)) at) (now (direction .entry)) (now (direction .exit)) (now (path .entry)) (now (path .exit)) (now (work .entry)) (now (work .exit)) ⌝ }
 {
     let setting = Setting {
         length: length,
         gaps: gaps,
         directions: directions,
         mode: mode,
+        ends: ends,
     };
     let traced = tracing::trace(width, height, plate, setting, at, path, work);
     match traced {

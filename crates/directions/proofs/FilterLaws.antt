@@ -69,37 +69,37 @@ module _ (r : Frame) {W H index : ℕ} (L : ℕ) (framed : Framed r W H index) (
 
   pub filter-states-few : filterStates r L ≤ 1024
   filter-states-few =
-      filter-choice r L true 1 (λ (p : Bool → Plan) (n : ℕ). n ≤ 1024)
+      filter-choice r L true 1 0 (λ (p : Bool → Plan) (n : ℕ). n ≤ 1024)
       (λ d k. few)
       (λ d k. framed .bounded .few-lines)
       (λ d. omega (arith, spare-straight r L d, straight-few d, framed .bounded))
 
-  module _ (by-rows : Bool) (planes : ℕ) where
-    pub filter-formed : (back : Bool) → 1 ≤ planes → planes ≤ 9 → wellFormed (filterPlan r by-rows back L planes) ≡ true
+  module _ (by-rows : Bool) (planes slack : ℕ) where
+    pub filter-formed : (back : Bool) → 1 ≤ planes → planes ≤ 9 → wellFormed (filterPlan r by-rows back L planes slack) ≡ true
     filter-formed back some-planes few-planes =
         let b : Bounded r = framed .bounded in
-        filter-choice r L by-rows planes (λ (p : Bool → Plan) (n : ℕ). wellFormed (p back) ≡ true)
-        (λ d k. ranked-formed r by-rows back (wholeArea r) (spareOf r L + 1) planes b (whole-area r (b .some-lines) (b .some-across)) (of .slim d) (omega arith)
+        filter-choice r L by-rows planes slack (λ (p : Bool → Plan) (n : ℕ). wellFormed (p back) ≡ true)
+        (λ d k. ranked-formed r by-rows back (wholeArea r slack) (spareOf r L + 1) planes b (whole-area r slack (b .some-lines) (b .some-across)) (of .slim d) (omega arith)
         (omega (arith, ranks-fit r L k)) some-planes few-planes)
-        (λ d k. still-formed r by-rows back L planes b some few some-planes few-planes)
-        (λ d. straight-formed r back (wholeArea r) L planes b (whole-area r (b .some-lines) (b .some-across)) some few some-planes few-planes)
+        (λ d k. still-formed r by-rows back L planes slack b some few some-planes few-planes)
+        (λ d. straight-formed r back (wholeArea r slack) L planes b (whole-area r slack (b .some-lines) (b .some-across)) some few some-planes few-planes)
 
     -- the other side has the same rows, counted from the other end
     pub filter-other :
-        otherEnd (filterPlan r by-rows false L planes) (reachIn r by-rows (filterPlan r by-rows false L planes .ranked) true)
-        ≡ filterPlan r by-rows true L planes
+        otherEnd (filterPlan r by-rows false L planes slack) (reachIn r by-rows (filterPlan r by-rows false L planes slack .ranked) true)
+        ≡ filterPlan r by-rows true L planes slack
     filter-other =
-        filter-choice r L by-rows planes
+        filter-choice r L by-rows planes slack
         (λ (p : Bool → Plan) (n : ℕ). otherEnd (p false) (reachIn r by-rows (p false .ranked) true) ≡ p true)
         (λ d k. rw d)
         (λ d k. rw d)
         (λ d. rw d)
 
-    pub filter-count : statesOf (filterPlan r by-rows false L planes) ≡ filterStates r L
+    pub filter-count : statesOf (filterPlan r by-rows false L planes slack) ≡ filterStates r L
     unfolding statesOf
     filter-count =
         let b : Bounded r = framed .bounded in
-        filter-choice r L by-rows planes (λ (p : Bool → Plan) (n : ℕ). statesOf (p false) ≡ n)
+        filter-choice r L by-rows planes slack (λ (p : Bool → Plan) (n : ℕ). statesOf (p false) ≡ n)
         (λ d k. omega (arith, fit-diagonal d, b .some-lines, b .some-across))
         (λ d k. refl)
         (λ d. omega (arith, spare-straight r L d, straight-few d))

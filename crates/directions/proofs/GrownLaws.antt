@@ -8,7 +8,7 @@ use mathlib.Core.List.{List}
 use native.Mathlib.Omega.{arith}
 use lib.Dec.{eqb}
 use borrow.Author.Tests.{eqb-true, eqb-false}
-use Rattle.theory.proofs.Ends.{from-start, from-step}
+use Rattle.theory.proofs.WalksTo.{from-start, from-step}
 use Rattle.frames.specs.Frames.{Framed, placeIn, onward}
 use Rattle.frames.specs.declared.frame.Frame.{Frame}
 use Rattle.plans.specs.Plans.{rowsIn, lineAt, rowLo, rowHi, rowAt, starts, startsAt}
@@ -31,7 +31,7 @@ Keyed r p e keys g = AtPixels p e (λ m x. keys (rowAt p e m + x) ≡ g (pixelIn
 
 -- walks start where the test passes
 abbrev pub StartsBy : Frame → Plan → ℕ → (ℕ → Bool) → Type 0
-StartsBy r p e ends = AtPixels p e (λ m x. starts p e m ≡ true → startsAt p m x ≡ ends (pixelIn r (p .ranked) (lineAt p e m) x))
+StartsBy r p e passes = AtPixels p e (λ m x. starts p e m ≡ true → startsAt p m x ≡ passes (pixelIn r (p .ranked) (lineAt p e m) x))
 
 -- the line of a pixel of row m
 abbrev pub lineIn : Plan → ℕ → ℕ → ℕ → ℕ
@@ -57,12 +57,12 @@ more-steps false e m h = some-steps m h
 
 -- ---- one step more
 
-module _ (r : Frame) (W H index : ℕ) (framed : Framed r W H index) (back : Bool) (g : ℕ → ℕ) (ends : ℕ → Bool) where
+module _ (r : Frame) (W H index : ℕ) (framed : Framed r W H index) (back : Bool) (p : Plan) (g : ℕ → ℕ) (passes : ℕ → Bool) where
   abbrev next : ℕ → List ℕ
   next = around back W H (2 ^ index)
 
   abbrev walks : ℕ → ℕ → ℕ → ℕ
-  walks = bestWalkTo next g ends
+  walks = bestWalkTo (p .slack) next g passes
 
   module _ (n i x : ℕ) (on : i < r .lines) (column : x < r .across) where
     fewer-onward : (j : ℕ) → fewer (λ b. best (walks n b) (next (placeIn r i x))) j ≡ fewer (λ b. onward (walks n b) r back i x) j
@@ -73,9 +73,9 @@ module _ (r : Frame) (W H index : ℕ) (framed : Framed r W H index) (back : Boo
     step-onward : (j : ℕ) →
         walks (suc n) j (placeIn r i x)
         ≡ max (min (g (placeIn r i x)) (onward (walks n j) r back i x)) (fewer (λ b. onward (walks n b) r back i x) j)
-    step-onward j = from-step next g ends n j (placeIn r i x) ∙ rw (framed .near (walks n j) back i x on column, fewer-onward j)
+    step-onward j = from-step (p .slack) next g passes n j (placeIn r i x) ∙ rw (framed .near (walks n j) back i x on column, fewer-onward j)
 
-    module _ (p : Plan) (e m : ℕ) (last this : ℕ → ℕ → ℕ → ℕ)
+    module _ (e m : ℕ) (last this : ℕ → ℕ → ℕ → ℕ)
         (onto : (j : ℕ) → ahead p e last this (suc j) m x ≡ onward (walks n j) r back i x) where
       fewer-ahead : (j : ℕ) → fewer (λ b. onward (walks n b) r back i x) j ≡ ahead p e last this j m x
       unfolding fewer ahead
@@ -88,26 +88,26 @@ module _ (r : Frame) (W H index : ℕ) (framed : Framed r W H index) (back : Boo
 
   -- ---- so the states grow, if the three steps of the plan find the three spots
 
-  module _ (p : Plan) (e : ℕ) (keys : ℕ → ℕ) (keyed : Keyed r p e keys g) (started : StartsBy r p e ends) (last : ℕ → ℕ → ℕ → ℕ) where
+  module _ (e : ℕ) (keys : ℕ → ℕ) (keyed : Keyed r p e keys g) (started : StartsBy r p e passes) (last : ℕ → ℕ → ℕ → ℕ) where
     abbrev this : ℕ → ℕ → ℕ → ℕ
-    this = numberAt r p next g ends e
+    this = numberAt r p next g passes e
 
     first-row : (m j x : ℕ) → m < rowsIn p e → rowLo p e m ≤ x → x < rowHi p e m → starts p e m ≡ true →
-        this m j x ≡ gate (startsAt p m x) (alone (keys (rowAt p e m + x)) j)
+        this m j x ≡ gate (startsAt p m x) (alone (p .slack) (keys (rowAt p e m + x)) j)
     unfolding numberAt starts
     first-row m j x h a b s =
         let q : ℕ = pixelIn r (p .ranked) (lineAt p e m) x in
         ap (λ (n : ℕ). walks n j q) (zero-steps (p .ranked) e m s)
-        ∙ from-start next g ends j q
-        ∙ gated (ends q) (alone (g q) j)
+        ∙ from-start (p .slack) next g passes j q
+        ∙ gated (passes q) (alone (p .slack) (g q) j)
         ∙ rw (keyed m x h a b, started m x h a b s)
 
     pub grown-by :
         AtPixels p e (λ m x. (lineIn p e m x < r .lines) × (x < r .across)) →
         AtPixels p e (λ m x. (n : ℕ) → stepsAt p e m ≡ suc n → (j : ℕ) →
-        ahead p e last (numberAt r p (around back W H (2 ^ index)) g ends e) (suc j) m x
-        ≡ onward (bestWalkTo (around back W H (2 ^ index)) g ends n j) r back (lineIn p e m x) x) →
-        Grown p e keys last (numberAt r p (around back W H (2 ^ index)) g ends e)
+        ahead p e last (numberAt r p (around back W H (2 ^ index)) g passes e) (suc j) m x
+        ≡ onward (bestWalkTo (p .slack) (around back W H (2 ^ index)) g passes n j) r back (lineIn p e m x) x) →
+        Grown p e keys last (numberAt r p (around back W H (2 ^ index)) g passes e)
     unfolding numberAt starts
     grown-by on onto =
         record {
@@ -117,6 +117,6 @@ module _ (r : Frame) (W H index : ℕ) (framed : Framed r W H index) (back : Boo
               let is : stepsAt p e m ≡ suc n = more-steps (p .ranked) e m s in
               let o = on m x h a b in
               ap (λ (i : ℕ). walks i j (pixelIn r (p .ranked) (lineAt p e m) x)) is
-              ∙ step-ahead n (lineIn p e m x) x (o .0) (o .1) p e m last this (onto m x h a b n is) j
+              ∙ step-ahead n (lineIn p e m x) x (o .0) (o .1) e m last this (onto m x h a b n is) j
               ∙ ap (λ (v : ℕ). max (min v (ahead p e last this (suc j) m x)) (ahead p e last this j m x)) (sym (keyed m x h a b));
         }

@@ -137,54 +137,54 @@ module _ (r : Frame) (a : Area) (area : AreaOf r a) (rows planes : ℕ) where
       let on = rank-on (a .top) (a .bottom) (a .left) (a .right) line x lo hi in
       record { column = omega (arith, area .narrow, on .0); within = omega (arith, area .low, area .high, on .2); reached = λ t. on .1 }
 
-module _ (r : Frame) (rows planes : ℕ) (by-rows : Bool) where
-  pub sized-still : (back : Bool) → PlanOn r (stillPlan r by-rows back rows planes)
+module _ (r : Frame) (rows planes slack : ℕ) (by-rows : Bool) where
+  pub sized-still : (back : Bool) → PlanOn r (stillPlan r by-rows back rows planes slack)
   sized-still back = record { same-lines = refl; same-across = refl; slim = λ h. absurd (true≢false (sym h)) }
 
-  pub on-still : (back : Bool) (e m x : ℕ) → e < r .lines → rowLo (stillPlan r by-rows back rows planes) e m ≤ x →
-      x < rowHi (stillPlan r by-rows back rows planes) e m → RowOn r (stillPlan r by-rows back rows planes) e m x
+  pub on-still : (back : Bool) (e m x : ℕ) → e < r .lines → rowLo (stillPlan r by-rows back rows planes slack) e m ≤ x →
+      x < rowHi (stillPlan r by-rows back rows planes slack) e m → RowOn r (stillPlan r by-rows back rows planes slack) e m x
   unfolding lineOf orderOf firstIn pastIn
   on-still true e m x h lo hi = record { column = hi; within = omega arith; reached = λ t. absurd (true≢false (sym t)) }
   on-still false e m x h lo hi = record { column = hi; within = omega arith; reached = λ t. absurd (true≢false (sym t)) }
 
 -- ---- the plans of the filter
 
-module _ (r : Frame) (by-rows : Bool) (L planes : ℕ) where
+module _ (r : Frame) (by-rows : Bool) (L planes slack : ℕ) where
   module _ (some-lines : 1 ≤ r .lines) (some-across : 1 ≤ r .across) (slim : r .diagonal ≡ true → r .across ≤ r .lines) where
-    area : AreaOf r (wholeArea r)
-    area = whole-area r some-lines some-across
+    area : AreaOf r (wholeArea r slack)
+    area = whole-area r slack some-lines some-across
 
-    pub sized-filter : (back : Bool) → PlanOn r (filterPlan r by-rows back L planes)
-    sized-filter = filter-choice r L by-rows planes (λ p S. (back : Bool) → PlanOn r (p back))
-        (λ d b back. sized-ranked r (wholeArea r) area (spareOf r L + 1) planes by-rows back (slim d))
-        (λ d b back. sized-still r L planes by-rows back)
-        (λ d back. sized-straight r (wholeArea r) area L planes back)
+    pub sized-filter : (back : Bool) → PlanOn r (filterPlan r by-rows back L planes slack)
+    sized-filter = filter-choice r L by-rows planes slack (λ p S. (back : Bool) → PlanOn r (p back))
+        (λ d b back. sized-ranked r (wholeArea r slack) area (spareOf r L + 1) planes by-rows back (slim d))
+        (λ d b back. sized-still r L planes slack by-rows back)
+        (λ d back. sized-straight r (wholeArea r slack) area L planes back)
 
-    pub on-filter : (back : Bool) (e m x : ℕ) → e < filterStates r L → m < rowsIn (filterPlan r by-rows back L planes) e →
-        rowLo (filterPlan r by-rows back L planes) e m ≤ x → x < rowHi (filterPlan r by-rows back L planes) e m →
-        RowOn r (filterPlan r by-rows back L planes) e m x
-    on-filter = filter-choice r L by-rows planes
+    pub on-filter : (back : Bool) (e m x : ℕ) → e < filterStates r L → m < rowsIn (filterPlan r by-rows back L planes slack) e →
+        rowLo (filterPlan r by-rows back L planes slack) e m ≤ x → x < rowHi (filterPlan r by-rows back L planes slack) e m →
+        RowOn r (filterPlan r by-rows back L planes slack) e m x
+    on-filter = filter-choice r L by-rows planes slack
         (λ p S. (back : Bool) (e m x : ℕ) → e < S → m < rowsIn (p back) e → rowLo (p back) e m ≤ x → x < rowHi (p back) e m → RowOn r (p back) e m x)
-        (λ d b back e m x h k. on-ranked r (wholeArea r) area (spareOf r L + 1) planes by-rows back e m x)
-        (λ d b back e m x h k. on-still r L planes by-rows back e m x h)
-        (λ d back e m x h k. on-straight r (wholeArea r) area L planes back e m x k)
+        (λ d b back e m x h k. on-ranked r (wholeArea r slack) area (spareOf r L + 1) planes by-rows back e m x)
+        (λ d b back e m x h k. on-still r L planes slack by-rows back e m x h)
+        (λ d back e m x h k. on-straight r (wholeArea r slack) area L planes back e m x k)
 
-    pub kept-row : (back : Bool) (e m x : ℕ) → e < filterStates r L → m < rowsIn (filterPlan r by-rows back L planes) e →
-        rowLo (filterPlan r by-rows back L planes) e m ≤ x → x < rowHi (filterPlan r by-rows back L planes) e m →
-        placeKept r (filterPlan r by-rows back L planes .ranked) (rowAt (filterPlan r by-rows back L planes) e m + x)
-        ≡ pixelIn r (filterPlan r by-rows back L planes .ranked) (lineAt (filterPlan r by-rows back L planes) e m) x
+    pub kept-row : (back : Bool) (e m x : ℕ) → e < filterStates r L → m < rowsIn (filterPlan r by-rows back L planes slack) e →
+        rowLo (filterPlan r by-rows back L planes slack) e m ≤ x → x < rowHi (filterPlan r by-rows back L planes slack) e m →
+        placeKept r (filterPlan r by-rows back L planes slack .ranked) (rowAt (filterPlan r by-rows back L planes slack) e m + x)
+        ≡ pixelIn r (filterPlan r by-rows back L planes slack .ranked) (lineAt (filterPlan r by-rows back L planes slack) e m) x
     kept-row back e m x h k lo hi =
-        kept-on r (filterPlan r by-rows back L planes) (sized-filter back) e m x (on-filter back e m x h k lo hi)
+        kept-on r (filterPlan r by-rows back L planes slack) (sized-filter back) e m x (on-filter back e m x h k lo hi)
 
     -- the keys of the rows, where the keys of the plate stand so
-    pub keyed : (g keys : ℕ → ℕ) (back : Bool) → ((q : ℕ) → keys q ≡ g (placeKept r (filterPlan r by-rows back L planes .ranked) q)) →
-        (e m x : ℕ) → e < filterStates r L → m < rowsIn (filterPlan r by-rows back L planes) e →
-        rowLo (filterPlan r by-rows back L planes) e m ≤ x → x < rowHi (filterPlan r by-rows back L planes) e m →
-        keys (rowAt (filterPlan r by-rows back L planes) e m + x)
-        ≡ g (pixelIn r (filterPlan r by-rows back L planes .ranked) (lineAt (filterPlan r by-rows back L planes) e m) x)
+    pub keyed : (g keys : ℕ → ℕ) (back : Bool) → ((q : ℕ) → keys q ≡ g (placeKept r (filterPlan r by-rows back L planes slack .ranked) q)) →
+        (e m x : ℕ) → e < filterStates r L → m < rowsIn (filterPlan r by-rows back L planes slack) e →
+        rowLo (filterPlan r by-rows back L planes slack) e m ≤ x → x < rowHi (filterPlan r by-rows back L planes slack) e m →
+        keys (rowAt (filterPlan r by-rows back L planes slack) e m + x)
+        ≡ g (pixelIn r (filterPlan r by-rows back L planes slack .ranked) (lineAt (filterPlan r by-rows back L planes slack) e m) x)
     keyed g keys back are e m x h k lo hi =
-        are (rowAt (filterPlan r by-rows back L planes) e m + x) ∙ ap g (kept-row back e m x h k lo hi)
+        are (rowAt (filterPlan r by-rows back L planes slack) e m + x) ∙ ap g (kept-row back e m x h k lo hi)
 
     -- both sides keep the keys in the same way
-    pub same-ranked : filterPlan r by-rows true L planes .ranked ≡ filterPlan r by-rows false L planes .ranked
-    same-ranked = filter-choice r L by-rows planes (λ p S. p true .ranked ≡ p false .ranked) (λ d b. refl) (λ d b. refl) (λ d. refl)
+    pub same-ranked : filterPlan r by-rows true L planes slack .ranked ≡ filterPlan r by-rows false L planes slack .ranked
+    same-ranked = filter-choice r L by-rows planes slack (λ p S. p true .ranked ≡ p false .ranked) (λ d b. refl) (λ d b. refl) (λ d. refl)

@@ -8,7 +8,7 @@ use native.Mathlib.Omega.{arith}
 use lib.ListN.{length, getD}
 use lib.IntN.{ℤ}
 use Rattle.plate.specs.Paths.{span}
-use Rattle.theory.proofs.Ends.{anywhere}
+use Rattle.theory.proofs.WalksTo.{anywhere}
 use Rattle.frames.specs.Frames.{Framed}
 use Rattle.directions.specs.Gathering.{Raised, bestOf}
 use Rattle.frames.specs.declared.frame.Frame.{Frame}
@@ -35,7 +35,7 @@ both true b h = refl
 both false b h = h
 
 -- what is asked of a side of a direction and of the steps back to sweep and join both sides, and what is known afterwards
-pub record Opening (r : Frame) (W H index L k : ℕ) (p : Plan) (back : Reach) : Type 0 where
+pub record Opening (r : Frame) (W H index L k slack : ℕ) (p : Plan) (back : Reach) : Type 0 where
   pub kept : KeptOn r (p .ranked)
   pub taken : (room : ℕ) → 4 * (k + 1) * (W * H) ≤ room → sweepable p back room 65536 ≡ true
   pub keys-fit : (room : ℕ) → 4 * (k + 1) * (W * H) ≤ room → r .lines * r .across ≤ room
@@ -43,7 +43,7 @@ pub record Opening (r : Frame) (W H index L k : ℕ) (p : Plan) (back : Reach) :
       Between (λ q. keysBy mode plate (placeKept r (p .ranked) q)) old work 0 (r .lines * r .across) →
       Swept p (otherEnd p back) (statesOf p) work zeros best → ((q : ℕ) → getD zeros q 0 ≡ 0) →
       Risen r (p .ranked) best start new 0 (r .lines * r .across) → length start ≡ W * H →
-      Raised (bestOf W H index mode (L - 1) k plate) start new 0 (W * H)
+      Raised (bestOf slack W H index mode (L - 1) k plate) start new 0 (W * H)
 
 -- ---- the frame
 
@@ -71,10 +71,10 @@ module _ (r : Frame) (W H index : ℕ) (framed : Framed r W H index) (of : Frame
         (some, few, long-enough L long),
       )
 
-  module _ (L : ℕ) (some : 1 ≤ L) (few : L ≤ 1024) (long : L ≤ span W H (2 ^ index)) (by-rows : Bool) (planes k : ℕ) (is-planes : planes ≡ k + 1)
+  module _ (L : ℕ) (some : 1 ≤ L) (few : L ≤ 1024) (long : L ≤ span W H (2 ^ index)) (by-rows : Bool) (planes slack k : ℕ) (is-planes : planes ≡ k + 1)
       (few-gaps : k ≤ 8) where
     abbrev side : Bool → Plan
-    side back = filterPlan r by-rows back L planes
+    side back = filterPlan r by-rows back L planes slack
 
     fit : L ≤ r .lines + cond (r .diagonal) (r .across - 1) 0
     fit = long-enough L long
@@ -84,15 +84,15 @@ module _ (r : Frame) (W H index : ℕ) (framed : Framed r W H index) (of : Frame
         record {
           bounded = framed .bounded;
           lies = λ i x h l. omega (arith, framed .lies i x h l, framed .area);
-          slim = λ e. of .slim (both (r .diagonal) (byRanks r L) (sym (filter-ranked r by-rows false L planes) ∙ e));
+          slim = λ e. of .slim (both (r .diagonal) (byRanks r L) (sym (filter-ranked r by-rows false L planes slack) ∙ e));
         }
 
     room-side : (room : ℕ) → 4 * (k + 1) * (W * H) ≤ room → Roomy (side false) room
     room-side room h =
-        filter-room r L framed of some few fit by-rows false planes room (omega arith) (omega arith) (rw (is-planes, framed .area) h)
+        filter-room r L framed of some few fit by-rows false planes slack room (omega arith) (omega arith) (rw (is-planes, framed .area) h)
 
     keys-side : keysSize (side false) ≡ r .lines * r .across
-    keys-side = rw (filter-lines r by-rows false L planes, filter-across r by-rows false L planes)
+    keys-side = rw (filter-lines r by-rows false L planes slack, filter-across r by-rows false L planes slack)
 
     -- ---- the keys, and the states of both sides
 
@@ -110,14 +110,14 @@ module _ (r : Frame) (W H index : ℕ) (framed : Framed r W H index) (of : Frame
       keys-of : (back : Bool) (q : ℕ) → keys q ≡ keysBy mode plate (placeKept r (side back .ranked) q)
       keys-of true q =
           ap (λ (b : Bool). keysBy mode plate (placeKept r b q))
-          (sym (same-ranked r by-rows L planes (framed .bounded .some-lines) (framed .bounded .some-across) (of .slim)))
+          (sym (same-ranked r by-rows L planes slack (framed .bounded .some-lines) (framed .bounded .some-across) (of .slim)))
       keys-of false q = refl
 
       sequence : (back : Bool) → Sequence (side back) keys (filterStates r L) (numbers back)
       sequence back =
-          filter-sequence r W H index framed known by-rows back (keysBy mode plate) keys planes L
+          filter-sequence r W H index framed slack known by-rows back (keysBy mode plate) keys planes L
           (λ e h m x l lo hi.
-          keyed r by-rows L planes (framed .bounded .some-lines) (framed .bounded .some-across) (of .slim) (keysBy mode plate) keys back (keys-of back) e m x
+          keyed r by-rows L planes slack (framed .bounded .some-lines) (framed .bounded .some-across) (of .slim) (keysBy mode plate) keys back (keys-of back) e m x
           h l lo hi)
 
       joined : (old work zeros best : List ℕ) → Between keys old work 0 (r .lines * r .across) →
@@ -129,9 +129,9 @@ module _ (r : Frame) (W H index : ℕ) (framed : Framed r W H index) (of : Frame
       side-opened : (old work zeros best : List ℕ) (start new : List ℤ) → Between keys old work 0 (r .lines * r .across) →
           Swept (side false) (side true) (filterStates r L) work zeros best → ((q : ℕ) → getD zeros q 0 ≡ 0) →
           Risen r (side false .ranked) best start new 0 (r .lines * r .across) → length start ≡ W * H →
-          Raised (bestOf W H index mode (L - 1) k plate) start new 0 (W * H)
+          Raised (bestOf slack W H index mode (L - 1) k plate) start new 0 (W * H)
       side-opened old work zeros best start new filled swept none risen size =
-          plate-raised r W H index by-rows L planes k framed of known some fit is-planes zeros best start new none mode plate
+          plate-raised r W H index by-rows L planes slack k framed of known some fit is-planes zeros best start new none mode plate
           (joined old work zeros best filled swept) risen size
 
     -- ---- the same of the plan and the steps that the code has made
@@ -142,14 +142,14 @@ module _ (r : Frame) (W H index : ℕ) (framed : Framed r W H index) (of : Frame
     side-taken : (room : ℕ) → 4 * (k + 1) * (W * H) ≤ room → sweepable (side false) steps-back room 65536 ≡ true
     side-taken room h =
         let roomy = room-side room h in
-        let other = filter-formed r L framed of some few fit by-rows planes true (omega arith) (omega arith) in
-        sweeps-if (side false) steps-back room 65536 (filter-formed r L framed of some few fit by-rows planes false (omega arith) (omega arith))
-        (roomy .halves) (rw (filter-other r L framed of some few fit by-rows planes) other)
-        (omega (arith, filter-count r L framed of some few fit by-rows planes, filter-states-few r L framed of some few fit))
+        let other = filter-formed r L framed of some few fit by-rows planes slack true (omega arith) (omega arith) in
+        sweeps-if (side false) steps-back room 65536 (filter-formed r L framed of some few fit by-rows planes slack false (omega arith) (omega arith))
+        (roomy .halves) (rw (filter-other r L framed of some few fit by-rows planes slack) other)
+        (omega (arith, filter-count r L framed of some few fit by-rows planes slack, filter-states-few r L framed of some few fit))
         (room-asked (side false) room roomy) (roomy .keys)
 
-    pub opening : (p : Plan) (back : Reach) → p ≡ filterPlan r by-rows false L planes → back ≡ reachIn r by-rows (p .ranked) true →
-        Opening r W H index L k p back
+    pub opening : (p : Plan) (back : Reach) → p ≡ filterPlan r by-rows false L planes slack → back ≡ reachIn r by-rows (p .ranked) true →
+        Opening r W H index L k slack p back
     opening p back is-p is-back =
         let is-steps : back ≡ steps-back = rw is-p at is-back in
         rw (is-p, is-steps) (record {
@@ -158,5 +158,5 @@ module _ (r : Frame) (W H index : ℕ) (framed : Framed r W H index) (of : Frame
           keys-fit = λ room h. omega (arith, room-side room h .alone, keys-side);
           raised = λ mode plate old work zeros best start new filled swept.
               side-opened mode plate old work zeros best start new filled
-              (rw (filter-other r L framed of some few fit by-rows planes, filter-count r L framed of some few fit by-rows planes) at swept);
+              (rw (filter-other r L framed of some few fit by-rows planes slack, filter-count r L framed of some few fit by-rows planes slack) at swept);
         })

@@ -25,8 +25,9 @@ pub record RowFor (r : Frame) (p : Plan) (states i x n : ℕ) : Type 0 where
   pub is-place : pixelIn r (p .ranked) (lineAt p state row) x ≡ placeIn r i x
 
 -- both sides, for paths of so many steps
-pub record Paired (r : Frame) (p o : Plan) (states steps planes : ℕ) : Type 0 where
+pub record Paired (r : Frame) (p o : Plan) (states steps planes slack : ℕ) : Type 0 where
   pub same-planes : p .planes ≡ planes
+  pub same-slack : (p .slack ≡ slack) × (o .slack ≡ slack)
   pub full : (e : ℕ) → e < states → rowsIn p e ≡ p .rows
   pub meets : (e m x : ℕ) → e < states → m < p .rows →
       pixelIn r (o .ranked) (lineAt o (states - 1 - e) (p .rows - 1 - m)) x ≡ pixelIn r (p .ranked) (lineAt p e m) x
@@ -46,9 +47,9 @@ module _ (s lines L : ℕ) (long : s + L ≡ lines) where
   straight-state : (i n l : ℕ) → n + l + 1 ≡ L → l ≤ lines - 1 - i → n ≤ i → i < lines → (i - n < s + 1) × (0 + (i - n + n) ≡ i)
   straight-state i n l all h k on = (omega arith, omega arith)
 
-module _ (r : Frame) (L planes : ℕ) (some : 1 ≤ L) (straight : r .diagonal ≡ false) (long : spareOf r L + L ≡ r .lines) where
+module _ (r : Frame) (L planes slack : ℕ) (some : 1 ≤ L) (straight : r .diagonal ≡ false) (long : spareOf r L + L ≡ r .lines) where
   abbrev window : Bool → Plan
-  window back = straightPlan r back (wholeArea r) L planes
+  window back = straightPlan r back (wholeArea r slack) L planes
 
   window-line : (e m : ℕ) → e < spareOf r L + 1 → m < L → lineAt (window true) (spareOf r L + 1 - 1 - e) (L - 1 - m) ≡ lineAt (window false) e m
   unfolding lineOf orderOf
@@ -70,11 +71,12 @@ module _ (r : Frame) (L planes : ℕ) (some : 1 ≤ L) (straight : r .diagonal �
         is-place = ap (λ (y : ℕ). placeIn r y x) (st .1);
       }
 
-  paired-straight : Paired r (window false) (window true) (spareOf r L + 1) (L - 1) planes
+  paired-straight : Paired r (window false) (window true) (spareOf r L + 1) (L - 1) planes slack
   unfolding rowsIn
   paired-straight =
       record {
         same-planes = refl;
+        same-slack = (refl, refl);
         full = λ e h. straight-full (spareOf r L) (r .lines) L long e h;
         meets = λ e m x h k. ap (λ (y : ℕ). placeIn r y x) (window-line e m h k);
         together = λ e m h k. omega arith;
@@ -86,9 +88,9 @@ module _ (r : Frame) (L planes : ℕ) (some : 1 ≤ L) (straight : r .diagonal �
 
 -- ---- single lines
 
-module _ (r : Frame) (by-rows : Bool) (L planes : ℕ) (some : 1 ≤ L) where
+module _ (r : Frame) (by-rows : Bool) (L planes slack : ℕ) (some : 1 ≤ L) where
   abbrev single : Bool → Plan
-  single back = stillPlan r by-rows back L planes
+  single back = stillPlan r by-rows back L planes slack
 
   single-line : (e m : ℕ) → e < r .lines → lineAt (single true) (r .lines - 1 - e) (L - 1 - m) ≡ lineAt (single false) e m
   unfolding lineOf orderOf
@@ -108,10 +110,11 @@ module _ (r : Frame) (by-rows : Bool) (L planes : ℕ) (some : 1 ≤ L) where
         is-place = let z : 0 + i ≡ i = omega arith in ap (λ (y : ℕ). placeIn r y x) z;
       }
 
-  paired-still : Paired r (single false) (single true) (r .lines) (L - 1) planes
+  paired-still : Paired r (single false) (single true) (r .lines) (L - 1) planes slack
   paired-still =
       record {
         same-planes = refl;
+        same-slack = (refl, refl);
         full = λ e h. still-rows (single false) e refl h;
         meets = λ e m x h k. ap (λ (y : ℕ). placeIn r y x) (single-line e m h);
         together = λ e m h k. omega arith;
@@ -136,10 +139,10 @@ rank-pixel : (lines across i x rank : ℕ) → rank ≡ i + x → i < lines → 
     (max 0 (rank + 1 - lines) ≤ x) × (x < min across (rank + 1 - 0)) × (rank - x ≡ i)
 rank-pixel lines across i x rank e on column = (omega arith, omega arith, omega arith)
 
-module _ (r : Frame) (by-rows : Bool) (L planes : ℕ) (some : 1 ≤ L) (slanted : r .diagonal ≡ true)
+module _ (r : Frame) (by-rows : Bool) (L planes slack : ℕ) (some : 1 ≤ L) (slanted : r .diagonal ≡ true)
     (long : spareOf r L + L + 1 ≡ r .lines + r .across) where
   abbrev slope : Bool → Plan
-  slope back = rankedPlan r by-rows back (wholeArea r) (spareOf r L + 1) planes
+  slope back = rankedPlan r by-rows back (wholeArea r slack) (spareOf r L + 1) planes
 
   slope-line : (e m : ℕ) → e < L → m < spareOf r L + 1 → lineAt (slope true) (L - 1 - e) (spareOf r L + 1 - 1 - m) ≡ lineAt (slope false) e m
   unfolding lineOf orderOf
@@ -162,11 +165,12 @@ module _ (r : Frame) (by-rows : Bool) (L planes : ℕ) (some : 1 ≤ L) (slanted
         is-place = ap (λ (y : ℕ). placeIn r y x) (px .2);
       }
 
-  paired-ranked : Paired r (slope false) (slope true) L (L - 1) planes
+  paired-ranked : Paired r (slope false) (slope true) L (L - 1) planes slack
   unfolding rowsIn
   paired-ranked =
       record {
         same-planes = refl;
+        same-slack = (refl, refl);
         full = λ e h. ranked-full (spareOf r L) (r .lines) (r .across) L long e h;
         meets = λ e m x h k. ap (λ (y : ℕ). placeIn r (y - x) x) (slope-line e m h k);
         together = λ e m h k. omega arith;
@@ -177,7 +181,7 @@ module _ (r : Frame) (by-rows : Bool) (L planes : ℕ) (some : 1 ≤ L) (slanted
 
 -- ---- the plans of the filter
 
-module _ (r : Frame) (by-rows : Bool) (L planes : ℕ) (some : 1 ≤ L) (some-across : 1 ≤ r .across)
+module _ (r : Frame) (by-rows : Bool) (L planes slack : ℕ) (some : 1 ≤ L) (some-across : 1 ≤ r .across)
     (fits : L ≤ r .lines + cond (r .diagonal) (r .across - 1) 0) where
   long-straight : r .diagonal ≡ false → spareOf r L + L ≡ r .lines
   long-straight d =
@@ -187,8 +191,8 @@ module _ (r : Frame) (by-rows : Bool) (L planes : ℕ) (some : 1 ≤ L) (some-ac
   long-slanted d =
       let z : cond (r .diagonal) (r .across - 1) 0 ≡ r .across - 1 = rw d in omega (arith, z, fits)
 
-  pub paired : Paired r (filterPlan r by-rows false L planes) (filterPlan r by-rows true L planes) (filterStates r L) (L - 1) planes
-  paired = filter-choice r L by-rows planes (λ p S. Paired r (p false) (p true) S (L - 1) planes)
-      (λ d b. paired-ranked r by-rows L planes some d (long-slanted d))
-      (λ d b. paired-still r by-rows L planes some)
-      (λ d. paired-straight r L planes some d (long-straight d))
+  pub paired : Paired r (filterPlan r by-rows false L planes slack) (filterPlan r by-rows true L planes slack) (filterStates r L) (L - 1) planes slack
+  paired = filter-choice r L by-rows planes slack (λ p S. Paired r (p false) (p true) S (L - 1) planes slack)
+      (λ d b. paired-ranked r by-rows L planes slack some d (long-slanted d))
+      (λ d b. paired-still r by-rows L planes slack some)
+      (λ d. paired-straight r L planes slack some d (long-straight d))

@@ -1,10 +1,9 @@
 -- The plans of a direction are well-formed, all three kinds: the sizes are those of the frame, rows are counted through an area of it, and the steps
 -- lead no further than one line or rank, and one pixel.
-use Prim.Native.Nat.{ℕ, _+_, _-_, _≤_, _<_}
+use Prim.Native.Nat.{ℕ, _-_, _≤_, _<_}
 use mathlib.Core.Path.{_≡_, refl}
 use mathlib.Core.Bool.{Bool, true, false}
 use native.Mathlib.Omega.{arith}
-use lib.Dec.{leb, eqb}
 use borrow.Author.Tests.{lt-ltb, le-leb, eq-eqb}
 use Rattle.frames.specs.Frames.{Bounded}
 use Rattle.frames.specs.declared.frame.Frame.{Frame}
@@ -74,22 +73,22 @@ module _ (r : Frame) (back : Bool) (a : Area) (rows planes : ℕ) where
 
 -- ---- single lines
 
-module _ (r : Frame) (by-rows back : Bool) (rows planes : ℕ) where
-  still-held : (c b : Bool) → stepsHeld (stillPlan r c b rows planes) ≡ true
+module _ (r : Frame) (by-rows back : Bool) (rows planes slack : ℕ) where
+  still-held : (c b : Bool) → stepsHeld (stillPlan r c b rows planes slack) ≡ true
   unfolding stepsHeld stepHeld stepOnLines
   still-held true true = refl
   still-held true false = refl
   still-held false true = refl
   still-held false false = refl
 
-  still-shaped : isShaped (stillPlan r by-rows back rows planes) ≡ true
+  still-shaped : isShaped (stillPlan r by-rows back rows planes slack) ≡ true
   unfolding isShaped
   still-shaped = eq-eqb (r .across) (r .across) refl
 
-  pub still-formed : Bounded r → 1 ≤ rows → rows ≤ 1024 → 1 ≤ planes → planes ≤ 9 → wellFormed (stillPlan r by-rows back rows planes) ≡ true
+  pub still-formed : Bounded r → 1 ≤ rows → rows ≤ 1024 → 1 ≤ planes → planes ≤ 9 → wellFormed (stillPlan r by-rows back rows planes slack) ≡ true
   unfolding ordersOf originOf
   still-formed b some few some-planes few-planes =
-      formed r (stillPlan r by-rows back rows planes) b refl refl some-planes few-planes some few (b .some-lines) (omega arith) (b .some-across) (omega arith)
+      formed r (stillPlan r by-rows back rows planes slack) b refl refl some-planes few-planes some few (b .some-lines) (omega arith) (b .some-across) (omega arith)
       (let e : r .lines ≡ r .lines - 0 = omega arith in e)
       refl still-shaped (still-held by-rows back)
 

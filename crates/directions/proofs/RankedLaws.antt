@@ -82,18 +82,18 @@ module _ (r : Frame) (by-rows back : Bool) (a : Area) (rows planes : ℕ) (area 
 
 -- ---- the three steps
 
-module _ (r : Frame) (W H index : ℕ) (framed : Framed r W H index) (slanted : r .diagonal ≡ true) (by-rows back : Bool) (g : ℕ → ℕ) (ends : ℕ → Bool)
+module _ (r : Frame) (W H index : ℕ) (framed : Framed r W H index) (slanted : r .diagonal ≡ true) (by-rows back : Bool) (g : ℕ → ℕ) (passes : ℕ → Bool)
     (a : Area) (area : AreaOf r a) (rows planes : ℕ)
-    (outside : (n j i x : ℕ) → i < r .lines → x < r .across → Beside a i x → bestWalkTo (around back W H (2 ^ index)) g ends n j (placeIn r i x) ≡ 0)
-    (too-far : (n j i x : ℕ) → InArea a i x → roomIn a back i x < n → bestWalkTo (around back W H (2 ^ index)) g ends n j (placeIn r i x) ≡ 0) where
+    (outside : (n j i x : ℕ) → i < r .lines → x < r .across → Beside a i x → bestWalkTo (a .slack) (around back W H (2 ^ index)) g passes n j (placeIn r i x) ≡ 0)
+    (too-far : (n j i x : ℕ) → InArea a i x → roomIn a back i x < n → bestWalkTo (a .slack) (around back W H (2 ^ index)) g passes n j (placeIn r i x) ≡ 0) where
   abbrev p : Plan
   p = rankedPlan r by-rows back a rows planes
 
   abbrev walks : ℕ → ℕ → ℕ → ℕ
-  walks = bestWalkTo (around back W H (2 ^ index)) g ends
+  walks = bestWalkTo (a .slack) (around back W H (2 ^ index)) g passes
 
   abbrev number : ℕ → ℕ → ℕ → ℕ → ℕ
-  number = numberAt r p (around back W H (2 ^ index)) g ends
+  number = numberAt r p (around back W H (2 ^ index)) g passes
 
   module _ (e n : ℕ) (is : e ≡ suc n) (j : ℕ) where
     -- a row of the last state is the spots of its rank
@@ -135,11 +135,11 @@ module _ (r : Frame) (W H index : ℕ) (framed : Framed r W H index) (slanted : 
           (two-on m refl)
 
   pub ranked-grown :
-      (e : ℕ) (keys : ℕ → ℕ) → Keyed r (rankedPlan r by-rows back a rows planes) e keys g → StartsBy r (rankedPlan r by-rows back a rows planes) e ends →
+      (e : ℕ) (keys : ℕ → ℕ) → Keyed r (rankedPlan r by-rows back a rows planes) e keys g → StartsBy r (rankedPlan r by-rows back a rows planes) e passes →
       Grown (rankedPlan r by-rows back a rows planes) e keys
-      (numberAt r (rankedPlan r by-rows back a rows planes) (around back W H (2 ^ index)) g ends (e - 1))
-      (numberAt r (rankedPlan r by-rows back a rows planes) (around back W H (2 ^ index)) g ends e)
+      (numberAt r (rankedPlan r by-rows back a rows planes) (around back W H (2 ^ index)) g passes (e - 1))
+      (numberAt r (rankedPlan r by-rows back a rows planes) (around back W H (2 ^ index)) g passes e)
   ranked-grown e keys keyed started =
-      grown-by r W H index framed back g ends p e keys keyed started (number (e - 1))
+      grown-by r W H index framed back p g passes e keys keyed started (number (e - 1))
       (λ m x h k l. pixel-on r by-rows back a rows planes area e m x k l)
       (λ m x h k l n is j. onto e n is j m (lineAt p e m - x) x h (pixel-rank r by-rows back a rows planes area e m x k l))

@@ -85,22 +85,22 @@ room-asked p room h =
 
 -- ---- what the plan says of itself
 
-module _ (r : Frame) (by-rows back : Bool) (L planes : ℕ) where
+module _ (r : Frame) (by-rows back : Bool) (L planes slack : ℕ) where
   abbrev plan : Plan
-  plan = filterPlan r by-rows back L planes
+  plan = filterPlan r by-rows back L planes slack
 
   pub filter-planes : plan .planes ≡ planes
-  filter-planes = filter-choice r L by-rows planes (λ (p : Bool → Plan) (n : ℕ). p back .planes ≡ planes) (λ d k. refl) (λ d k. refl) (λ d. refl)
+  filter-planes = filter-choice r L by-rows planes slack (λ (p : Bool → Plan) (n : ℕ). p back .planes ≡ planes) (λ d k. refl) (λ d k. refl) (λ d. refl)
 
   pub filter-lines : plan .lines ≡ r .lines
-  filter-lines = filter-choice r L by-rows planes (λ (p : Bool → Plan) (n : ℕ). p back .lines ≡ r .lines) (λ d k. refl) (λ d k. refl) (λ d. refl)
+  filter-lines = filter-choice r L by-rows planes slack (λ (p : Bool → Plan) (n : ℕ). p back .lines ≡ r .lines) (λ d k. refl) (λ d k. refl) (λ d. refl)
 
   pub filter-across : plan .across ≡ r .across
-  filter-across = filter-choice r L by-rows planes (λ (p : Bool → Plan) (n : ℕ). p back .across ≡ r .across) (λ d k. refl) (λ d k. refl) (λ d. refl)
+  filter-across = filter-choice r L by-rows planes slack (λ (p : Bool → Plan) (n : ℕ). p back .across ≡ r .across) (λ d k. refl) (λ d k. refl) (λ d. refl)
 
   pub filter-ranked : plan .ranked ≡ (r .diagonal && byRanks r L)
   filter-ranked =
-      filter-choice r L by-rows planes (λ (p : Bool → Plan) (n : ℕ). p back .ranked ≡ (r .diagonal && byRanks r L))
+      filter-choice r L by-rows planes slack (λ (p : Bool → Plan) (n : ℕ). p back .ranked ≡ (r .diagonal && byRanks r L))
       (λ d k. rw (k, d))
       (λ d k. rw (k, d))
       (λ d. rw d)
@@ -108,17 +108,17 @@ module _ (r : Frame) (by-rows back : Bool) (L planes : ℕ) where
 -- ---- the plans of the filter
 
 module _ (r : Frame) {W H index : ℕ} (L : ℕ) (framed : Framed r W H index) (of : FrameOf r W H index) (some : 1 ≤ L) (few : L ≤ 1024)
-    (fit : L ≤ r .lines + cond (r .diagonal) (r .across - 1) 0) (by-rows back : Bool) (planes : ℕ) where
-  filter-fits : (filterPlan r by-rows back L planes .rows ≤ r .lines) × (filterPlan r by-rows back L planes .linked ≡ true → r .across ≤ r .lines)
+    (fit : L ≤ r .lines + cond (r .diagonal) (r .across - 1) 0) (by-rows back : Bool) (planes slack : ℕ) where
+  filter-fits : (filterPlan r by-rows back L planes slack .rows ≤ r .lines) × (filterPlan r by-rows back L planes slack .linked ≡ true → r .across ≤ r .lines)
   filter-fits =
-      filter-choice r L by-rows planes (λ (p : Bool → Plan) (n : ℕ). (p back .rows ≤ r .lines) × (p back .linked ≡ true → r .across ≤ r .lines))
+      filter-choice r L by-rows planes slack (λ (p : Bool → Plan) (n : ℕ). (p back .rows ≤ r .lines) × (p back .linked ≡ true → r .across ≤ r .lines))
       (λ d k. (ranks-fit r L k, λ _. of .slim d))
       (λ d k. (still-few r L framed of some few fit d k, λ _. of .slim d))
       (λ d. (straight-few r L framed of some few fit d, λ f. absurd (true≢false (sym f))))
 
-  pub filter-room : (room : ℕ) → 1 ≤ planes → planes ≤ 9 → 4 * planes * (r .lines * r .across) ≤ room → Roomy (filterPlan r by-rows back L planes) room
+  pub filter-room : (room : ℕ) → 1 ≤ planes → planes ≤ 9 → 4 * planes * (r .lines * r .across) ≤ room → Roomy (filterPlan r by-rows back L planes slack) room
   filter-room room some-planes few-planes h =
-      let lines = filter-lines r by-rows back L planes in
-      let across = filter-across r by-rows back L planes in
-      roomy (filterPlan r by-rows back L planes) room (filter-formed r L framed of some few fit by-rows planes back some-planes few-planes)
-      (rw lines (filter-fits .0)) (rw (lines, across) (filter-fits .1)) (rw (lines, across, filter-planes r by-rows back L planes) h)
+      let lines = filter-lines r by-rows back L planes slack in
+      let across = filter-across r by-rows back L planes slack in
+      roomy (filterPlan r by-rows back L planes slack) room (filter-formed r L framed of some few fit by-rows planes slack back some-planes few-planes)
+      (rw lines (filter-fits .0)) (rw (lines, across) (filter-fits .1)) (rw (lines, across, filter-planes r by-rows back L planes slack) h)

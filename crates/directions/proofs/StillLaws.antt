@@ -20,9 +20,9 @@ use Rattle.directions.proofs.GrownLaws.{Keyed, StartsBy, grown-by}
 
 -- ---- the lines of the states
 
-module _ (r : Frame) (by-rows back : Bool) (rows planes e : ℕ) (on : e < r .lines) where
+module _ (r : Frame) (by-rows back : Bool) (rows planes slack e : ℕ) (on : e < r .lines) where
   abbrev plan : Plan
-  plan = stillPlan r by-rows back rows planes
+  plan = stillPlan r by-rows back rows planes slack
 
   line-on : (m : ℕ) → lineAt plan e m < r .lines
   unfolding lineOf orderOf
@@ -40,16 +40,16 @@ module _ (r : Frame) (by-rows back : Bool) (rows planes e : ℕ) (on : e < r .li
 
 -- ---- the three steps
 
-module _ (r : Frame) (W H index : ℕ) (framed : Framed r W H index) (slanted : r .diagonal ≡ true) (by-rows back : Bool) (g : ℕ → ℕ) (ends : ℕ → Bool)
-    (rows planes : ℕ) where
+module _ (r : Frame) (W H index : ℕ) (framed : Framed r W H index) (slanted : r .diagonal ≡ true) (by-rows back : Bool) (g : ℕ → ℕ) (passes : ℕ → Bool)
+    (rows planes slack : ℕ) where
   abbrev p : Plan
-  p = stillPlan r by-rows back rows planes
+  p = stillPlan r by-rows back rows planes slack
 
   abbrev walks : ℕ → ℕ → ℕ → ℕ
-  walks = bestWalkTo (around back W H (2 ^ index)) g ends
+  walks = bestWalkTo slack (around back W H (2 ^ index)) g passes
 
   abbrev number : ℕ → ℕ → ℕ → ℕ → ℕ
-  number = numberAt r p (around back W H (2 ^ index)) g ends
+  number = numberAt r p (around back W H (2 ^ index)) g passes
 
   module _ (e m n : ℕ) (on : e < r .lines) (is : m ≡ suc n) (j : ℕ) where
     -- the row before of the same state is the spots of the line
@@ -57,7 +57,7 @@ module _ (r : Frame) (W H index : ℕ) (framed : Framed r W H index) (slanted : 
     unfolding rowBefore firstIn pastIn numberAt orderOf
     along X =
         ap (λ (i : ℕ). rowBefore p e (number e) i j X) is
-        ∙ line-row (number e n j) (walks n j) r (lineAt p e n) (lineAt p e m + 1) X (line-on r by-rows back rows planes e on n) (omega arith) (λ x h. refl)
+        ∙ line-row (number e n j) (walks n j) r (lineAt p e n) (lineAt p e m + 1) X (line-on r by-rows back rows planes slack e on n) (omega arith) (λ x h. refl)
 
     -- the row before of the last state is the spots of the line before
     before : (d : ℕ) → d ≡ e → (X : ℕ) → lastBefore p e (number (e - 1)) m j X ≡ spot (walks n j) r (past back (lineAt p e m)) X
@@ -65,13 +65,13 @@ module _ (r : Frame) (W H index : ℕ) (framed : Framed r W H index) (slanted : 
     before zero h X =
         ap (λ (i : ℕ). lastBefore p i (number (e - 1)) m j X) (sym h)
         ∙ sym (spot-zero (walks n j) r (past back (lineAt p e m)) X
-        (λ i x k l u v. absurd (none-before r by-rows back rows planes e on m i (sym h) k u)))
+        (λ i x k l u v. absurd (none-before r by-rows back rows planes slack e on m i (sym h) k u)))
     before (suc d) h X =
         let z : e - 1 ≡ d = omega arith in
         ap (λ (i : ℕ). lastBefore p i (number (e - 1)) m j X) (sym h)
         ∙ ap (λ (i : ℕ). rowBefore p d (number (e - 1)) i j X) is
         ∙ line-row (number (e - 1) n j) (walks n j) r (lineAt p d n) (past back (lineAt p e m)) X
-        (line-on r by-rows back rows planes d (omega arith) n) (line-before r by-rows back rows planes e on d m n (sym h))
+        (line-on r by-rows back rows planes slack d (omega arith) n) (line-before r by-rows back rows planes slack e on d m n (sym h))
         (λ x l. ap (λ (i : ℕ). number i n j x) z)
 
     onto : (x : ℕ) → ahead p e (number (e - 1)) (number e) (suc j) m x ≡ onward (walks n j) r back (lineAt p e m) x
@@ -81,13 +81,13 @@ module _ (r : Frame) (W H index : ℕ) (framed : Framed r W H index) (slanted : 
         (along (past back x)) (before e refl (x + 1)) (before e refl (past back x))
 
   pub still-grown :
-      (e : ℕ) (keys : ℕ → ℕ) → e < r .lines → Keyed r (stillPlan r by-rows back rows planes) e keys g →
-      StartsBy r (stillPlan r by-rows back rows planes) e ends →
-      Grown (stillPlan r by-rows back rows planes) e keys
-      (numberAt r (stillPlan r by-rows back rows planes) (around back W H (2 ^ index)) g ends (e - 1))
-      (numberAt r (stillPlan r by-rows back rows planes) (around back W H (2 ^ index)) g ends e)
+      (e : ℕ) (keys : ℕ → ℕ) → e < r .lines → Keyed r (stillPlan r by-rows back rows planes slack) e keys g →
+      StartsBy r (stillPlan r by-rows back rows planes slack) e passes →
+      Grown (stillPlan r by-rows back rows planes slack) e keys
+      (numberAt r (stillPlan r by-rows back rows planes slack) (around back W H (2 ^ index)) g passes (e - 1))
+      (numberAt r (stillPlan r by-rows back rows planes slack) (around back W H (2 ^ index)) g passes e)
   unfolding firstIn pastIn
   still-grown e keys on keyed started =
-      grown-by r W H index framed back g ends p e keys keyed started (number (e - 1))
-      (λ m x h k l. (line-on r by-rows back rows planes e on m, l))
+      grown-by r W H index framed back p g passes e keys keyed started (number (e - 1))
+      (λ m x h k l. (line-on r by-rows back rows planes slack e on m, l))
       (λ m x h k l n is j. onto e m n on is j x)

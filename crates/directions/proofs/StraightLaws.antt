@@ -31,16 +31,16 @@ module _ (r : Frame) (back : Bool) (a : Area) (rows planes : ℕ) (area : AreaOf
   unfolding rowsIn lineOf orderOf past
   line-before n h = elim back [ true ↦ omega (arith, row, area .high) | false ↦ omega arith ]
 
-module _ (r : Frame) (W H index : ℕ) (framed : Framed r W H index) (straight : r .diagonal ≡ false) (back : Bool) (g : ℕ → ℕ) (ends : ℕ → Bool)
+module _ (r : Frame) (W H index : ℕ) (framed : Framed r W H index) (straight : r .diagonal ≡ false) (back : Bool) (g : ℕ → ℕ) (passes : ℕ → Bool)
     (a : Area) (area : AreaOf r a) (rows planes : ℕ) where
   abbrev p : Plan
   p = straightPlan r back a rows planes
 
   abbrev walks : ℕ → ℕ → ℕ → ℕ
-  walks = bestWalkTo (around back W H (2 ^ index)) g ends
+  walks = bestWalkTo (a .slack) (around back W H (2 ^ index)) g passes
 
   abbrev number : ℕ → ℕ → ℕ → ℕ → ℕ
-  number = numberAt r p (around back W H (2 ^ index)) g ends
+  number = numberAt r p (around back W H (2 ^ index)) g passes
 
   module _ (e m n : ℕ) (row : m < rowsIn p e) (is : m ≡ suc n) (j : ℕ) where
     -- a row before is the spots of the line before
@@ -57,11 +57,11 @@ module _ (r : Frame) (W H index : ℕ) (framed : Framed r W H index) (straight :
         straight-taps (walks n j) r back (lineAt p e m) x (λ y X. seen p e last (number e) y m j X) straight before
 
   pub straight-grown :
-      (e : ℕ) (keys : ℕ → ℕ) → Keyed r (straightPlan r back a rows planes) e keys g → StartsBy r (straightPlan r back a rows planes) e ends →
+      (e : ℕ) (keys : ℕ → ℕ) → Keyed r (straightPlan r back a rows planes) e keys g → StartsBy r (straightPlan r back a rows planes) e passes →
       (last : ℕ → ℕ → ℕ → ℕ) →
-      Grown (straightPlan r back a rows planes) e keys last (numberAt r (straightPlan r back a rows planes) (around back W H (2 ^ index)) g ends e)
+      Grown (straightPlan r back a rows planes) e keys last (numberAt r (straightPlan r back a rows planes) (around back W H (2 ^ index)) g passes e)
   unfolding firstIn pastIn
   straight-grown e keys keyed started last =
-      grown-by r W H index framed back g ends p e keys keyed started last
+      grown-by r W H index framed back p g passes e keys keyed started last
       (λ m x h k l. (line-on r back a rows planes area e m h, l))
       (λ m x h k l n is j. onto e m n h is j last x)

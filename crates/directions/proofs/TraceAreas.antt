@@ -11,7 +11,7 @@ use native.Mathlib.Omega.{arith}
 use lib.Dec.{eqb}
 use borrow.Author.Tests.{eqb-true}
 use Rattle.basics.proofs.Numbers.{le-or-lt, le-max-split}
-use Rattle.theory.proofs.Ends.{from-start, from-step}
+use Rattle.theory.proofs.WalksTo.{from-start, from-step}
 use Rattle.theory.proofs.Maxima.{best-find}
 use Rattle.frames.specs.Frames.{placeIn, Framed}
 use Rattle.frames.specs.declared.frame.Frame.{Frame}
@@ -24,27 +24,27 @@ use Rattle.directions.proofs.StepPlaces.{Neighbour, nearer, further, cl
 
 -- ---- numbers that are not 0
 
-module _ (next : ℕ → List ℕ) (g : ℕ → ℕ) (ends : ℕ → Bool) where
+module _ (slack : ℕ) (next : ℕ → List ℕ) (g : ℕ → ℕ) (passes : ℕ → Bool) where
   -- at the last pixel the test is passed
-  start-some : (j p : ℕ) → 1 ≤ bestWalkTo next g ends 0 j p → ends p ≡ true
-  start-some j p h = go (ends p) refl (omega (arith, from-start next g ends j p))
+  start-some : (j p : ℕ) → 1 ≤ bestWalkTo slack next g passes 0 j p → passes p ≡ true
+  start-some j p h = go (passes p) refl (omega (arith, from-start slack next g passes j p))
     where
-      go : (b : Bool) → ends p ≡ b → 1 ≤ cond b (alone (g p) j) 0 → ends p ≡ true
+      go : (b : Bool) → passes p ≡ b → 1 ≤ cond b (alone slack (g p) j) 0 → passes p ≡ true
       go true e l = e
       go false e l = absurd (omega arith)
 
   -- before it some step leads on
-  pub step-some : (m j p : ℕ) → 1 ≤ bestWalkTo next g ends (suc m) j p → (q : ℕ) × (k : ℕ) × List·Memᴰ q (next p) × (1 ≤ bestWalkTo next g ends m k q)
+  pub step-some : (m j p : ℕ) → 1 ≤ bestWalkTo slack next g passes (suc m) j p → (q : ℕ) × (k : ℕ) × List·Memᴰ q (next p) × (1 ≤ bestWalkTo slack next g passes m k q)
   unfolding fewer
   step-some m zero p h =
-      let s = best-find (bestWalkTo next g ends m zero) 1 (next p) (omega arith) (omega (arith, from-step next g ends m zero p)) in
+      let s = best-find (bestWalkTo slack next g passes m zero) 1 (next p) (omega arith) (omega (arith, from-step slack next g passes m zero p)) in
       (s .0, zero, s .1, s .2)
   step-some m (suc j) p h =
       ⊎-elim
-      (λ l. let s = best-find (bestWalkTo next g ends m (suc j)) 1 (next p) (omega arith) (omega (arith, l)) in (s .0, suc j, s .1, s .2))
-      (λ l. let s = best-find (bestWalkTo next g ends m j) 1 (next p) (omega arith) l in (s .0, j, s .1, s .2))
-      (le-max-split 1 (min (g p) (best (bestWalkTo next g ends m (suc j)) (next p))) (best (bestWalkTo next g ends m j) (next p))
-      (omega (arith, from-step next g ends m (suc j) p)))
+      (λ l. let s = best-find (bestWalkTo slack next g passes m (suc j)) 1 (next p) (omega arith) (omega (arith, l)) in (s .0, suc j, s .1, s .2))
+      (λ l. let s = best-find (bestWalkTo slack next g passes m j) 1 (next p) (omega arith) l in (s .0, j, s .1, s .2))
+      (le-max-split 1 (min (g p) (best (bestWalkTo slack next g passes m (suc j)) (next p))) (best (bestWalkTo slack next g passes m j) (next p))
+      (omega (arith, from-step slack next g passes m (suc j) p)))
 
 -- ---- the cone of the walks of n steps to a spot
 
@@ -140,41 +140,41 @@ off-ranks r false s n i x C d far = omega (arith, far, C .diagonal d)
 -- ---- the numbers of a trace
 
 -- the best walk of n steps with at most j gaps from a place to the picked one
-abbrev pub traced : ℕ → ℕ → ℕ → Bool → (ℕ → ℕ) → ℕ → ℕ → ℕ → ℕ → ℕ
-traced W H index back g target n j p = bestWalkTo (around back W H (2 ^ index)) g (λ q. eqb q target) n j p
+abbrev pub traced : ℕ → ℕ → ℕ → ℕ → Bool → (ℕ → ℕ) → ℕ → ℕ → ℕ → ℕ → ℕ
+traced slack W H index back g target n j p = bestWalkTo slack (around back W H (2 ^ index)) g (λ q. eqb q target) n j p
 
 module _
-    (r : Frame) (W H index : ℕ) (F : Framed r W H index) (O : FrameOf r W H index) (back : Bool) (s : Spot) (target : ℕ) (S : SpotOf r s target) (g : ℕ → ℕ) where
-  pub trace-cone : (n j i x : ℕ) → i < r .lines → x < r .across → 1 ≤ traced W H index back g target n j (placeIn r i x) → Cone r back s n i x
+    (slack : ℕ) (r : Frame) (W H index : ℕ) (F : Framed r W H index) (O : FrameOf r W H index) (back : Bool) (s : Spot) (target : ℕ) (S : SpotOf r s target) (g : ℕ → ℕ) where
+  pub trace-cone : (n j i x : ℕ) → i < r .lines → x < r .across → 1 ≤ traced slack W H index back g target n j (placeIn r i x) → Cone r back s n i x
   trace-cone zero j i x hi hx h =
-      let e = eqb-true (placeIn r i x) target (start-some (around back W H (2 ^ index)) g (λ q. eqb q target) j (placeIn r i x) h) in
+      let e = eqb-true (placeIn r i x) target (start-some slack (around back W H (2 ^ index)) g (λ q. eqb q target) j (placeIn r i x) h) in
       let at = place-injective r W H index O i x (s .line) (s .pixel) hi hx (S .on-line) (S .on-pixel) (e ∙ sym (S .is)) in
       cone-start r back s i x (at .0) (at .1)
   trace-cone (suc n) j i x hi hx h =
-      let t = step-some (around back W H (2 ^ index)) g (λ q. eqb q target) n j (placeIn r i x) h in
+      let t = step-some slack (around back W H (2 ^ index)) g (λ q. eqb q target) n j (placeIn r i x) h in
       let u = step-place r W H index F back i x hi hx (t .0) (t .2) in
       cone-step r back s n i x (u .0) (u .1) (u .3)
-      (trace-cone n (t .1) (u .0) (u .1) (u .3 .on-line) (u .3 .on-pixel) (subst (λ (q : ℕ). 1 ≤ traced W H index back g target n (t .1) q) (sym (u .2)) (t .3)))
+      (trace-cone n (t .1) (u .0) (u .1) (u .3 .on-line) (u .3 .on-pixel) (subst (λ (q : ℕ). 1 ≤ traced slack W H index back g target n (t .1) q) (sym (u .2)) (t .3)))
 
   -- off the cone there is none
-  pub trace-none : (n j i x : ℕ) → i < r .lines → x < r .across → (Cone r back s n i x → ⊥) → traced W H index back g target n j (placeIn r i x) ≡ 0
+  pub trace-none : (n j i x : ℕ) → i < r .lines → x < r .across → (Cone r back s n i x → ⊥) → traced slack W H index back g target n j (placeIn r i x) ≡ 0
   trace-none n j i x hi hx off =
-      ⊎-elim (λ l. absurd (off (trace-cone n j i x hi hx l))) (λ l. omega (arith, l)) (le-or-lt 1 (traced W H index back g target n j (placeIn r i x)))
+      ⊎-elim (λ l. absurd (off (trace-cone n j i x hi hx l))) (λ l. omega (arith, l)) (le-or-lt 1 (traced slack W H index back g target n j (placeIn r i x)))
 
   -- ---- off the area, and too far for the area
 
   pub trace-outside-lines :
       (n j i x : ℕ) → i < r .lines → x < r .across → (i < traceArea r back s .top) ⊎ (traceArea r back s .bottom ≤ i) →
-      traced W H index back g target n j (placeIn r i x) ≡ 0
+      traced slack W H index back g target n j (placeIn r i x) ≡ 0
   trace-outside-lines n j i x hi hx out = trace-none n j i x hi hx (λ C. off-lines r back s n i x C hi out)
 
   pub trace-outside-pixels :
       r .diagonal ≡ true → (n j i x : ℕ) → i < r .lines → x < r .across → (x < traceArea r back s .left) ⊎ (traceArea r back s .right ≤ x) →
-      traced W H index back g target n j (placeIn r i x) ≡ 0
+      traced slack W H index back g target n j (placeIn r i x) ≡ 0
   trace-outside-pixels d n j i x hi hx out = trace-none n j i x hi hx (λ C. off-pixels r back s n i x C d hx out)
 
   pub trace-too-far :
       r .diagonal ≡ true → (n j i x : ℕ) → i < r .lines → x < r .across →
       cond back (traceArea r back s .bottom - 1 - i + (traceArea r back s .right - 1 - x)) (i - traceArea r back s .top + (x - traceArea r back s .left)) < n →
-      traced W H index back g target n j (placeIn r i x) ≡ 0
+      traced slack W H index back g target n j (placeIn r i x) ≡ 0
   trace-too-far d n j i x hi hx far = trace-none n j i x hi hx (λ C. off-ranks r back s n i x C d far)

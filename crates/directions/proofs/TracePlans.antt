@@ -45,6 +45,10 @@ choice P false a b x y ranked straight = straight refl
 below-first : (a b e : ℕ) → e < min a b → e < a
 below-first a b e h = omega arith
 
+area-slack : (r : Frame) (back : Bool) (s : Spot) → traceArea r back s .slack ≡ 65535
+area-slack r true s = refl
+area-slack r false s = refl
+
 module _ (r : Frame) (by-rows back : Bool) (L planes : ℕ) (s : Spot) where
   pub trace-choice : (P : Plan → ℕ → Type 0) →
       (r .diagonal ≡ true → P (rankedPlan r by-rows back (traceArea r back s) (rankRows r back L s) planes) (rankStates r back L s)) →
@@ -66,6 +70,10 @@ module _ (r : Frame) (by-rows back : Bool) (L planes : ℕ) (s : Spot) where
 
   pub trace-ranked : tracePlan r by-rows back L planes s .ranked ≡ r .diagonal
   trace-ranked = trace-choice (λ (p : Plan) (n : ℕ). p .ranked ≡ r .diagonal) (λ d. sym d) (λ d. sym d)
+
+  -- the picked pixel may be a gap
+  pub trace-slack : tracePlan r by-rows back L planes s .slack ≡ 65535
+  trace-slack = trace-choice (λ (p : Plan) (n : ℕ). p .slack ≡ 65535) (λ d. area-slack r back s) (λ d. area-slack r back s)
 
   -- ---- few states, and few steps
 
@@ -153,19 +161,19 @@ module _ (r : Frame) (W H index : ℕ) (F : Framed r W H index) where
 
     module _ (g keys : ℕ → ℕ) where
       outside : r .diagonal ≡ true → (n j i z : ℕ) → i < r .lines → z < r .across → Beside (traceArea r back s) i z →
-          bestWalkTo (around back W H (2 ^ index)) g (λ q. eqb q x) n j (placeIn r i z) ≡ 0
+          bestWalkTo (traceArea r back s .slack) (around back W H (2 ^ index)) g (λ q. eqb q x) n j (placeIn r i z) ≡ 0
       outside d n j i z hi hz out =
           ⊎-elim
-          (λ o. trace-outside-lines r W H index F O back s x S g n j i z hi hz (inl o))
+          (λ o. trace-outside-lines (traceArea r back s .slack) r W H index F O back s x S g n j i z hi hz (inl o))
           (⊎-elim
-          (λ o. trace-outside-lines r W H index F O back s x S g n j i z hi hz (inr o))
-          (λ o. trace-outside-pixels r W H index F O back s x S g d n j i z hi hz o))
+          (λ o. trace-outside-lines (traceArea r back s .slack) r W H index F O back s x S g n j i z hi hz (inr o))
+          (λ o. trace-outside-pixels (traceArea r back s .slack) r W H index F O back s x S g d n j i z hi hz o))
           out
 
       too-far : r .diagonal ≡ true → (n j i z : ℕ) → InArea (traceArea r back s) i z → roomIn (traceArea r back s) back i z < n →
-          bestWalkTo (around back W H (2 ^ index)) g (λ q. eqb q x) n j (placeIn r i z) ≡ 0
+          bestWalkTo (traceArea r back s .slack) (around back W H (2 ^ index)) g (λ q. eqb q x) n j (placeIn r i z) ≡ 0
       too-far d n j i z inside h =
-          trace-too-far r W H index F O back s x S g d n j i z (omega (arith, inside .over-bottom, area .low))
+          trace-too-far (traceArea r back s .slack) r W H index F O back s x S g d n j i z (omega (arith, inside .over-bottom, area .low))
           (omega (arith, inside .before-right, area .narrow)) h
 
       -- the states of a plan are a sequence, if its walks of no steps start at the picked pixel and its keys are those of its pixels

@@ -289,8 +289,8 @@ module _ (r : Frame) (s : Spot) (planes L n i x : ℕ) (few : n < L) (hi : i < r
 pub trace-rows :
     (r : Frame) (W H index : ℕ) → Framed r W H index → FrameOf r W H index → (by-rows back : Bool) (L planes : ℕ) (s : Spot)
     (target : ℕ) → SpotOf r s target → (g : ℕ → ℕ) (n i x : ℕ) → n < L → i < r .lines → x < r .across →
-    ((j : ℕ) → traced W H index back g target n j (placeIn r i x) ≡ 0) ⊎ HasRow r (tracePlan r by-rows back L planes s) (traceStates r back L s) n i x
+    ((j : ℕ) → traced 65535 W H index back g target n j (placeIn r i x) ≡ 0) ⊎ HasRow r (tracePlan r by-rows back L planes s) (traceStates r back L s) n i x
 trace-rows r W H index F O by-rows back L planes s target S g n i x few hi hx =
     ⊎-elim (λ C. inr (cone-row r s planes L n i x few hi hx by-rows back (r .diagonal) refl C))
-    (λ off. inl (λ j. trace-none r W H index F O back s target S g n j i x hi hx off))
+    (λ off. inl (λ j. trace-none 65535 r W H index F O back s target S g n j i x hi hx off))
     (cone-or-not r back s n i x (r .diagonal) refl)

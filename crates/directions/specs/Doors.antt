@@ -1,7 +1,7 @@
 -- What the doors of this crate answer, whatever numbers they are asked with: each judges first, and these are its tests. These definitions serve
 -- contracts inside the engine only: no public contract cites them.
 use Prim.Native.Nat.{ℕ, _+_, _*_, _/_, _%_}
-use mathlib.Core.Bool.{Bool, true, false, cond, not, _&&_, _||_}
+use mathlib.Core.Bool.{Bool, false, cond, not, _&&_, _||_}
 use mathlib.Core.List.{List}
 use lib.Dec.{leb, ltb, eqb}
 use lib.IntN.{ℤ}
@@ -85,6 +85,7 @@ noPlan =
       linked = false;
       lone = false;
       pixel = 0;
+      slack = 0;
       reach = reachBy 0 0 0 0 0 0;
     }
 

@@ -21,9 +21,9 @@ pub record Risen (r : Frame) (ranked : Bool) (best : List ℕ) (old new : List �
   pub len : length new ≡ length old
 
 -- the best walk through a pixel, in a direction and a mode
-unfoldable pub bestOf : ℕ → ℕ → ℕ → ℕ → ℕ → ℕ → List ℤ → ℕ → ℕ
-bestOf W H index mode steps k plate x =
-    bestThrough (around false W H (2 ^ index)) (around true W H (2 ^ index)) (λ p. keyBy mode (levelAt plate p)) steps k x
+unfoldable pub bestOf : ℕ → ℕ → ℕ → ℕ → ℕ → ℕ → ℕ → List ℤ → ℕ → ℕ
+bestOf slack W H index mode steps k plate x =
+    bestThrough slack (around false W H (2 ^ index)) (around true W H (2 ^ index)) (λ p. keyBy mode (levelAt plate p)) steps k x
 
 -- the levels from lo below hi have risen to f where they were lower, and the others are as they were
 pub record Raised (f : ℕ → ℕ) (old new : List ℤ) (lo hi : ℕ) : Type 0 where

@@ -25,7 +25,7 @@ pixelIn r ranked line x = placeIn r (cond ranked (line - x) line) x
 
 -- the best walk at pixel x of row m of state e with at most j gaps, to a place that passes the test
 unfoldable pub numberAt : Frame → Plan → (ℕ → List ℕ) → (ℕ → ℕ) → (ℕ → Bool) → ℕ → ℕ → ℕ → ℕ → ℕ
-numberAt r p next g ends e m j x = bestWalkTo next g ends (stepsAt p e m) j (pixelIn r (p .ranked) (lineAt p e m) x)
+numberAt r p next g passes e m j x = bestWalkTo (p .slack) next g passes (stepsAt p e m) j (pixelIn r (p .ranked) (lineAt p e m) x)
 
 -- the line of the frame whose pixel x has its key in this row of keys: on ranks a row has the pixels of its rank, and those of the rank as many lines on
 -- as the frame has

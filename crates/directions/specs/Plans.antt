@@ -88,12 +88,13 @@ straightPlan r back a rows planes =
       linked = false;
       lone = a .lone;
       pixel = a .pixel;
+      slack = a .slack;
       reach = straightReach back;
     }
 
 -- single lines: state e is line e, row m its walks of m steps
-abbrev pub stillPlan : Frame → Bool → Bool → ℕ → ℕ → Plan
-stillPlan r by-rows back rows planes =
+abbrev pub stillPlan : Frame → Bool → Bool → ℕ → ℕ → ℕ → Plan
+stillPlan r by-rows back rows planes slack =
     record {
       planes = planes;
       lines = r .lines;
@@ -111,6 +112,7 @@ stillPlan r by-rows back rows planes =
       linked = true;
       lone = false;
       pixel = 0;
+      slack = slack;
       reach = diagonalReach by-rows false back;
     }
 
@@ -134,12 +136,13 @@ rankedPlan r by-rows back a rows planes =
       linked = true;
       lone = a .lone;
       pixel = a .pixel;
+      slack = a .slack;
       reach = diagonalReach by-rows true back;
     }
 
--- the whole frame, where a walk may start at every pixel
-abbrev pub wholeArea : Frame → Area
-wholeArea r = record { top = 0; bottom = r .lines; left = 0; right = r .across; lone = false; pixel = 0 }
+-- the whole frame, where a walk may start at every pixel, with a gap up to this key
+abbrev pub wholeArea : Frame → ℕ → Area
+wholeArea r slack = record { top = 0; bottom = r .lines; left = 0; right = r .across; lone = false; pixel = 0; slack = slack }
 
 -- an area of the frame
 pub record AreaOf (r : Frame) (a : Area) : Type 0 where
@@ -158,11 +161,11 @@ spareOf r L = r .lines + cond (r .diagonal) (r .across - 1) 0 - L
 unfoldable pub byRanks : Frame → ℕ → Bool
 byRanks r L = leb (spareOf r L + 1) (r .lines) && leb (4 * (spareOf r L + 1)) (5 * L)
 
-unfoldable pub filterPlan : Frame → Bool → Bool → ℕ → ℕ → Plan
-filterPlan r by-rows back L planes =
+unfoldable pub filterPlan : Frame → Bool → Bool → ℕ → ℕ → ℕ → Plan
+filterPlan r by-rows back L planes slack =
     cond (r .diagonal)
-    (cond (byRanks r L) (rankedPlan r by-rows back (wholeArea r) (spareOf r L + 1) planes) (stillPlan r by-rows back L planes))
-    (straightPlan r back (wholeArea r) L planes)
+    (cond (byRanks r L) (rankedPlan r by-rows back (wholeArea r slack) (spareOf r L + 1) planes) (stillPlan r by-rows back L planes slack))
+    (straightPlan r back (wholeArea r slack) L planes)
 
 unfoldable pub filterStates : Frame → ℕ → ℕ
 filterStates r L = cond (r .diagonal) (cond (byRanks r L) L (r .lines)) (spareOf r L + 1)

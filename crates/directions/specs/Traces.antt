@@ -10,12 +10,13 @@ use Rattle.directions.specs.Plans.{straightPlan, rankedPlan}
 use Rattle.directions.specs.declared.plan.Area.{Area}
 use Rattle.directions.specs.declared.frame.Spot.{Spot}
 
--- the lines and pixels from the picked pixel on, or up to it
+-- the lines and pixels from the picked pixel on, or up to it. The picked pixel, where walks start, may be a gap whatever `ends` is: a path's ends are
+-- where these walks end.
 abbrev pub traceArea : Frame → Bool → Spot → Area
 traceArea r back s =
     cond back
-    (record { top = 0; bottom = s .line + 1; left = 0; right = s .pixel + 1; lone = true; pixel = s .pixel })
-    (record { top = s .line; bottom = r .lines; left = s .pixel; right = r .across; lone = true; pixel = s .pixel })
+    (record { top = 0; bottom = s .line + 1; left = 0; right = s .pixel + 1; lone = true; pixel = s .pixel; slack = 65535 })
+    (record { top = s .line; bottom = r .lines; left = s .pixel; right = r .across; lone = true; pixel = s .pixel; slack = 65535 })
 
 -- on a straight direction one state, whose rows are the lines from the picked pixel's on; on a diagonal one a state for each number of steps, whose
 -- rows are ranks

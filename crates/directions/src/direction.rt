@@ -4,6 +4,7 @@ ghost use mathlib.Core.Bool.{true};
 ghost use Prim.Native.Nat.{_-_, _*_};
 ghost use lib.ListN.{length};
 ghost use Rattle.basics.specs.Cases.{either};
+ghost use Rattle.theory.specs.BestWalks.{gapEnd};
 ghost use Rattle.directions.specs.Gathering.{Raised, bestOf};
 ghost use Rattle.directions.specs.Doors.{opens};
 use crate::fits::opens_plate;
@@ -28,7 +29,7 @@ fn raise_all(
     index: usize,
 )
     requires { ⌜ opens width height setting index (length (now plate)) (length (now result)) (length (now work)) ≡ true ⌝ }
-    ensures { λ _. ⌜ Raised (bestOf width height index (setting .mode) (setting .length - 1) (setting .gaps) (now (plate .entry))) (now (result .entry)) (now (result .exit)) 0 (width * height) ⌝ }
+    ensures { λ _. ⌜ Raised (bestOf (gapEnd (setting .ends)) width height index (setting .mode) (setting .length - 1) (setting .gaps) (now (plate .entry))) (now (result .entry)) (now (result .exit)) 0 (width * height) ⌝ }
 {
     let frame = frame_of(width, height, index);
     let rows = by_rows(width, height, index);
@@ -42,7 +43,7 @@ fn raise_all(
         rows: rows,
         back: true,
     };
-    let plan = filter_plan(frame, on, setting.length, setting.gaps + 1);
+    let plan = filter_plan(frame, on, setting.length, setting.gaps + 1, setting.ends);
     let reach = reach_of(frame, back, plan.ranked);
     let mut best = [0u16; 65536];
     fill_keys(work, plate, frame, plan.ranked, setting.mode);
@@ -62,7 +63,7 @@ pub fn open_direction(
     index: usize,
 ) -> bool
     ensures { λ r. ⌜ r ≡ opens width height setting index (length (now (plate .entry))) (length (now (result .entry))) (length (now (work .entry))) ⌝ }
-    ensures { λ r. ⌜ either r (Raised (bestOf width height index (setting .mode) (setting .length - 1) (setting .gaps) (now (plate .entry))) (now (result .entry)) (now (result .exit)) 0 (width * height)) ((now (result .exit) ≡ now (result .entry)) × (now (work .exit) ≡ now (work .entry))) ⌝ }
+    ensures { λ r. ⌜ either r (Raised (bestOf (gapEnd (setting .ends)) width height index (setting .mode) (setting .length - 1) (setting .gaps) (now (plate .entry))) (now (result .entry)) (now (result .exit)) 0 (width * height)) ((now (result .exit) ≡ now (result .entry)) × (now (work .exit) ≡ now (work .entry))) ⌝ }
 {
     if !opens_plate(
         width,

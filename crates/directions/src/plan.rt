@@ -4,6 +4,7 @@ ghost use mathlib.Core.Path.{_≡_};
 ghost use mathlib.Core.Bool.{true, false, cond};
 ghost use Prim.Native.Nat.{_+_, _-_, _≤_, _<_, min};
 ghost use Rattle.directions.specs.Plans.{Oriented, AreaOf, pixelsOn, linesOn, rowBy, reachIn, straightPlan, stillPlan, rankedPlan, filterPlan, byRanks, spareOf};
+ghost use Rattle.theory.specs.BestWalks.{gapEnd};
 ghost use Rattle.directions.specs.Traces.{traceArea, tracePlan, traceStates};
 use crate::frame::Spot;
 use frames::Frame;
@@ -11,7 +12,7 @@ use plans::Plan;
 use plans::Reach;
 
 // The lines from `top` below `bottom` and the pixels from `left` below `right`; and where a walk may start:
-// at one pixel alone, or at all.
+// at one pixel alone, or at all; and up to which key with a gap.
 pub struct Area {
     pub top: usize,
     pub bottom: usize,
@@ -19,6 +20,7 @@ pub struct Area {
     pub right: usize,
     pub lone: bool,
     pub pixel: usize,
+    pub slack: u16,
 }
 
 // A direction as it is swept: its place in the step table, whether its lines are rows of the plate, and
@@ -120,14 +122,15 @@ fn straight_plan(frame: Frame, course: Course, area: Area, rows: usize, planes: 
         linked: false,
         lone: area.lone,
         pixel: area.pixel,
+        slack: area.slack,
         reach: reach,
     }
 }
 
 // Single lines, for a diagonal direction with short paths.
-fn still_plan(frame: Frame, course: Course, rows: usize, planes: usize) -> Plan
+fn still_plan(frame: Frame, course: Course, rows: usize, planes: usize, slack: u16) -> Plan
     requires { ⌜ (Oriented frame course) × (frame .diagonal ≡ true) × (1 ≤ frame .lines) ⌝ }
-    ensures { λ r. ⌜ r ≡ stillPlan frame (course .rows) (course .back) rows planes ⌝ }
+    ensures { λ r. ⌜ r ≡ stillPlan frame (course .rows) (course .back) rows planes slack ⌝ }
 {
     let mut origin = 0;
     if course.back {
@@ -151,6 +154,7 @@ fn still_plan(frame: Frame, course: Course, rows: usize, planes: usize) -> Plan
         linked: true,
         lone: false,
         pixel: 0,
+        slack: slack,
         reach: reach,
     }
 }
@@ -182,6 +186,7 @@ fn ranked_plan(frame: Frame, course: Course, area: Area, rows: usize, planes: us
         linked: true,
         lone: area.lone,
         pixel: area.pixel,
+        slack: area.slack,
         reach: reach,
     }
 }
@@ -210,12 +215,19 @@ fn by_ranks(frame: Frame, length: usize) -> bool
     4 * rows <= 5 * length
 }
 
-// The plan of one side of the filter.
-pub(crate) fn filter_plan(frame: Frame, course: Course, length: usize, planes: usize) -> Plan
+// The plan of one side of the filter: its walks start at the ends of paths.
+pub(crate) fn filter_plan(
+    frame: Frame,
+    course: Course,
+    length: usize,
+    planes: usize,
+    ends: usize,
+) -> Plan
     requires { ⌜ (Oriented frame course) × (1 ≤ frame .lines) × (1 ≤ frame .across) × (frame .lines ≤ 1024) × (frame .across ≤ 1024) ⌝ }
     requires { ⌜ (1 ≤ length) × (length ≤ 1024) × (length ≤ frame .lines + cond (frame .diagonal) (frame .across - 1) 0) ⌝ }
-    ensures { λ r. ⌜ r ≡ filterPlan frame (course .rows) (course .back) length planes ⌝ }
+    ensures { λ r. ⌜ r ≡ filterPlan frame (course .rows) (course .back) length planes (gapEnd ends) ⌝ }
 {
+    let slack = plans::gap_end(ends);
     let area = Area {
         top: 0,
         bottom: frame.lines,
@@ -223,6 +235,7 @@ pub(crate) fn filter_plan(frame: Frame, course: Course, length: usize, planes: u
         right: frame.across,
         lone: false,
         pixel: 0,
+        slack: slack,
     };
     if !frame.diagonal {
         return straight_plan(frame, course, area, length, planes);
@@ -231,7 +244,7 @@ pub(crate) fn filter_plan(frame: Frame, course: Course, length: usize, planes: u
         let rows = spare_of(frame, length) + 1;
         return ranked_plan(frame, course, area, rows, planes);
     }
-    still_plan(frame, course, length, planes)
+    still_plan(frame, course, length, planes, slack)
 }
 
 // The lesser of two.
@@ -241,7 +254,8 @@ fn least(a: usize, b: usize) -> usize
     if a < b { a } else { b }
 }
 
-// The lines and pixels from a spot on, or up to it; walks start at the spot alone.
+// The lines and pixels from a spot on, or up to it; walks start at the spot alone, which may be a gap
+// whatever the setting says of ends: it is where these walks end that a path does.
 fn trace_area(frame: Frame, back: bool, spot: Spot) -> Area
     requires { ⌜ (spot .line < frame .lines) × (spot .pixel < frame .across) ⌝ }
     ensures { λ r. ⌜ r ≡ traceArea frame back spot ⌝ }
@@ -254,6 +268,7 @@ fn trace_area(frame: Frame, back: bool, spot: Spot) -> Area
             right: spot.pixel + 1,
             lone: true,
             pixel: spot.pixel,
+            slack: plans::MAX_KEY,
         };
     }
     Area {
@@ -263,6 +278,7 @@ fn trace_area(frame: Frame, back: bool, spot: Spot) -> Area
         right: frame.across,
         lone: true,
         pixel: spot.pixel,
+        slack: plans::MAX_KEY,
     }
 }
 

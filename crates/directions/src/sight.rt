@@ -58,6 +58,7 @@ fn no_sight() -> Sight
         linked: false,
         lone: false,
         pixel: 0,
+        slack: 0,
         reach: reach,
     };
     Sight {

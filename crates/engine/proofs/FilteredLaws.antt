@@ -22,7 +22,7 @@ use Rattle.theory.proofs.Opening.{levels-within}
 use Rattle.theory.proofs.Mirror.{turned-levels, filtered-length, levelAt-filtered}
 use Rattle.frames.specs.Keys.{keyBy, levelBy}
 use Rattle.engine.specs.Finishing.{bestOfAll, Blank, Gathered, Finished}
-use Rattle.theory.specs.BestWalks.{keyAt, value}
+use Rattle.theory.specs.BestWalks.{keyAt, gapEnd, value}
 use Rattle.theory.specs.Modes.{Levels, asMode}
 
 -- the key by the mode is the key of a turned level, and the level by the mode a turned level
@@ -46,7 +46,7 @@ module _ (s : Setting) (W H : ℕ) (plate : List ℤ) (sized : length plate ≡ 
 
   -- the opened key of the turned plate
   abbrev valueAt : ℕ → ℕ
-  valueAt x = value W H (chosen (s .directions)) (s .length - 1) (s .gaps) g x
+  valueAt x = value (gapEnd (s .ends)) W H (chosen (s .directions)) (s .length - 1) (s .gaps) g x
 
   same-keys : (p : ℕ) → p < W * H → keyAt turnedPlate p ≡ g p
   same-keys p on =
@@ -55,7 +55,7 @@ module _ (s : Setting) (W H : ℕ) (plate : List ℤ) (sized : length plate ≡ 
   opened-key : (x : ℕ) → x < W * H → 1 ≤ s .length → openedAt s W H turnedPlate x ≡ level (valueAt x)
   opened-key x on long =
       opened-value turnedPlate (turned-levels s plate levels .size) s W H (s .length - 1) x on (let e : s .length ≡ suc (s .length - 1) = omega arith in e)
-      ∙ ap level (value-same W H (chosen (s .directions)) (s .length - 1) (s .gaps) x on (keyAt turnedPlate) g same-keys)
+      ∙ ap level (value-same (gapEnd (s .ends)) W H (chosen (s .directions)) (s .length - 1) (s .gaps) x on (keyAt turnedPlate) g same-keys)
 
   filtered-level : (x : ℕ) → x < W * H → 1 ≤ s .length → levelAt (filtered s W H plate) x ≡ levelBy (s .mode) (valueAt x)
   filtered-level x on long =

@@ -1,5 +1,5 @@
--- Sieving twice, of calls (document 02, N2): two accepted calls of `filter`, of equal k, directions and mode, the second handed what the first has left,
--- fill the result as one call by the larger length does. Nothing but the contract is used: what an accepted call leaves is the filtered plate, and
+-- Sieving twice, of calls (document 02, N2): two accepted calls of `filter`, of equal k, directions and mode and with `ends` 0, the second handed what
+-- the first has left, fill the result as one call by the larger length does. Nothing but the contract is used: what an accepted call leaves is the filtered plate, and
 -- check 3 has let its setting through, so k is below its length.
 use Prim.Native.Nat.{ℕ, _<_, max}
 use mathlib.Core.Path.{_≡_, sym, ap, _∙_}
@@ -16,7 +16,7 @@ use Rattle.theory.specs.SievingTwice.{withLength, filteredBy}
 use Rattle.theory.proofs.SievingTwice.{sieved-twice}
 use Rattle.engine.specs.SievingTwice.{FilterCall}
 
-module _ (s : Setting) (W H : ℕ) where
+module _ (s : Setting) (free : s .ends ≡ 0) (W H : ℕ) where
   done-below : {L : ℕ} {plate old filled : List ℤ} → FilterCall W H (withLength s L) plate Done old filled → s .gaps < L
   done-below {L} {plate} {old} c = filter-gaps-below W H (withLength s L) (length plate) (length old) (length (c .work)) (c .answers)
 
@@ -27,7 +27,7 @@ module _ (s : Setting) (W H : ℕ) where
   two-calls {K} {L} {plate} levels first second =
       second .fills
       ∙ ap (filteredBy s W H L) (first .fills)
-      ∙ sieved-twice s W H K L plate levels (record { below-K = done-below first; below-L = done-below second }) .K-then-L
+      ∙ sieved-twice s W H K L plate levels (record { below-K = done-below first; below-L = done-below second; free-ends = free }) .K-then-L
 
   -- so one call by the larger length, where it is accepted, leaves the same
   pub as-one-call :

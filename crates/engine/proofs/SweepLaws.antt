@@ -27,18 +27,18 @@ use Rattle.directions.specs.Gathering.{Raised, bestOf}
 use Rattle.directions.specs.Doors.{opens}
 use Rattle.directions.proofs.DoorLaws.{opens-if}
 use Rattle.engine.specs.Finishing.{Accepted, Complete, Gathered, bestIn, bestIfChosen, bestOfAll}
-use Rattle.theory.specs.BestWalks.{keyAt, best}
+use Rattle.theory.specs.BestWalks.{keyAt, best, gapEnd}
 use Rattle.theory.specs.Walks.{around}
 use Rattle.engine.proofs.RaiseLaws.{raised-to-nothing, raised-twice, raised-by}
 
 -- ---- a direction that is opened
 
 pub chosen-best : (W H : ℕ) (s : Setting) (index : ℕ) (plate old new : List ℤ) → member (s .directions) (2 ^ index) ≡ true →
-    Raised (bestOf W H index (s .mode) (s .length - 1) (s .gaps) plate) old new 0 (W * H) →
+    Raised (bestOf (gapEnd (s .ends)) W H index (s .mode) (s .length - 1) (s .gaps) plate) old new 0 (W * H) →
     Raised (bestIfChosen W H s plate (2 ^ index)) old new 0 (W * H)
 unfolding bestIfChosen bestOf around
 chosen-best W H s index plate old new e h =
-    raised-by (bestOf W H index (s .mode) (s .length - 1) (s .gaps) plate) (bestIfChosen W H s plate (2 ^ index)) old new 0 (W * H) h (λ x a b. rw e)
+    raised-by (bestOf (gapEnd (s .ends)) W H index (s .mode) (s .length - 1) (s .gaps) plate) (bestIfChosen W H s plate (2 ^ index)) old new 0 (W * H) h (λ x a b. rw e)
 
 -- ---- a direction that adds nothing
 
@@ -56,7 +56,7 @@ module _ (W H : ℕ) (s : Setting) (plate : List ℤ) (index bit : ℕ) (is-bit 
 module _ (W H : ℕ) (s : Setting) (plate : List ℤ) (index : ℕ) (known : index < 4) (short : span W H (2 ^ index) < s .length) where
   no-path : (x : ℕ) → x < W * H → bestIn W H s plate (2 ^ index) x ≡ 0
   no-path x on =
-      across-none W H (2 ^ index) (s .length - 1) (s .gaps) (λ p. keyBy (s .mode) (levelAt plate p)) x
+      across-none (gapEnd (s .ends)) W H (2 ^ index) (s .length - 1) (s .gaps) (λ p. keyBy (s .mode) (levelAt plate p)) x
       (λ p ps w i.
       omega (
         arith,
@@ -88,7 +88,7 @@ pub chosen-opened :
     (W H : ℕ) (s : Setting) (index : ℕ) (plate old new : List ℤ) (work work′ : List ℕ) (r : Bool) →
     Accepted W H s (length plate) (length old) (length work) → index < 4 → member (s .directions) (2 ^ index) ≡ true →
     r ≡ opens W H s index (length plate) (length old) (length work) →
-    either r (Raised (bestOf W H index (s .mode) (s .length - 1) (s .gaps) plate) old new 0 (W * H)) ((new ≡ old) × (work′ ≡ work)) →
+    either r (Raised (bestOf (gapEnd (s .ends)) W H index (s .mode) (s .length - 1) (s .gaps) plate) old new 0 (W * H)) ((new ≡ old) × (work′ ≡ work)) →
     Raised (bestIfChosen W H s plate (2 ^ index)) old new 0 (W * H)
 chosen-opened W H s index plate old new work work′ true p known is-chosen e h = chosen-best W H s index plate old new is-chosen h
 chosen-opened W H s index plate old new work work′ false p known is-chosen e h =

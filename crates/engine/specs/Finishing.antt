@@ -7,7 +7,6 @@ use mathlib.Core.List.{List}
 use lib.ListN.{length}
 use lib.IntN.{ℤ}
 use lib.Signed.{mag}
-use Rattle.plate.specs.Levels.{level}
 use Rattle.plate.specs.Directions.{member, chosen}
 use Rattle.plate.specs.Paths.{next}
 use Rattle.plate.specs.Opening.{levelAt}
@@ -15,7 +14,7 @@ use Rattle.plate.specs.Calls.{Passed}
 use Rattle.plate.specs.declared.setting.Setting.{Setting}
 use Rattle.frames.specs.Keys.{keyBy, levelBy}
 use Rattle.theory.specs.Walks.{back}
-use Rattle.theory.specs.BestWalks.{best, keyAt, bestThrough}
+use Rattle.theory.specs.BestWalks.{best, keyAt, gapEnd, bestThrough}
 
 -- sizes, setting and the lengths of plate, result and work that pass every check
 abbrev pub Accepted : ℕ → ℕ → Setting → ℕ → ℕ → ℕ → Type 0
@@ -23,7 +22,8 @@ Accepted W H s plate result work = Passed W H s plate (W * H) result work
 
 -- the best path through a pixel in the direction with this bit, but for the pixel's own key
 abbrev pub bestIn : ℕ → ℕ → Setting → List ℤ → ℕ → ℕ → ℕ
-bestIn W H s plate bit x = bestThrough (next W H bit) (back W H bit) (λ p. keyBy (s .mode) (levelAt plate p)) (s .length - 1) (s .gaps) x
+bestIn W H s plate bit x =
+    bestThrough (gapEnd (s .ends)) (next W H bit) (back W H bit) (λ p. keyBy (s .mode) (levelAt plate p)) (s .length - 1) (s .gaps) x
 
 -- the same where the direction is chosen, else nothing
 unfoldable pub bestIfChosen : ℕ → ℕ → Setting → List ℤ → ℕ → ℕ → ℕ

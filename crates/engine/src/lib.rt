@@ -23,7 +23,7 @@ use plate::Fills;
 use plate::Lent;
 use plate::Setting;
 
-// Fills result with the filtered plate, or refuses (1 to 8) before the first store: then both lent
+// Fills result with the filtered plate, or refuses (1 to 8, 18) before the first store: then both lent
 // buffers are as they were. The work buffer has at least 4 * (gaps + 1) * width * height numbers, and
 // what is left in it is free.
 pub fn filter(

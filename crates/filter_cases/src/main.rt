@@ -1,5 +1,7 @@
-// Tests the filter by document 01's worked plates (section 7) and those of sieving twice (sieving.rt): each
-// prints its name and its filtered levels; the file stdout beside src/ has what the papers say.
+// Tests the filter by document 01's worked plates (section 7), those of sieving twice (sieving.rt) and those
+// of a crack's ends (ends.rt): each prints its name and its filtered levels; the file stdout beside src/ has
+// what the papers say.
+mod ends;
 mod printing;
 mod settings;
 mod sieving;
@@ -20,6 +22,7 @@ fn main() {
     row_of_four();
     two_rows();
     sieving::sieve_rows();
+    ends::end_rows();
 }
 
 fn filter_one(name: &[u8], level: i16, s: Setting) {

@@ -21,5 +21,17 @@ pub(crate) fn setting(mode: usize, directions: usize, length: usize, gaps: usize
         gaps,
         directions,
         mode,
+        ends: 0,
+    }
+}
+
+// The same where a path must end on crack (document 02, N5).
+pub(crate) fn crack_ended(s: Setting) -> Setting {
+    Setting {
+        length: s.length,
+        gaps: s.gaps,
+        directions: s.directions,
+        mode: s.mode,
+        ends: 1,
     }
 }

@@ -27,7 +27,8 @@ fn read_through(plate: &[i16])
 }
 
 // Filters by the setting, and what that leaves by the other length: the two calls that a surveyor makes. If
-// both are accepted, the result is that of one call by the larger length; else it is as it was.
+// both are accepted, the result is that of one call by the larger length, where a path's ends may be gaps;
+// else it is as it was.
 fn sieve_twice(
     width: usize,
     height: usize,
@@ -38,7 +39,7 @@ fn sieve_twice(
     result: &mut [i16],
     work: &mut [u16],
 ) -> Answer
-    ensures { λ r. ⌜ now (result .exit) ≡ resultAfter r (filteredBy setting width height (max (setting .length) other) (now (plate .entry))) (now (result .entry)) ⌝ }
+    ensures { λ r. ⌜ (setting .ends ≡ 0 → now (result .exit) ≡ resultAfter r (filteredBy setting width height (max (setting .length) other) (now (plate .entry))) (now (result .entry))) ⌝ }
 {
     read_through(plate);
     let answer = engine::filter(width, height, plate, setting, between, work);
@@ -53,6 +54,7 @@ fn sieve_twice(
         gaps: setting.gaps,
         directions: setting.directions,
         mode: setting.mode,
+        ends: setting.ends,
     };
     engine::filter(width, height, between, by_other, result, work)
 }

@@ -41,6 +41,8 @@ pub struct Plan {
     // whether walks start at one pixel alone, that of row 0
     pub lone: bool,
     pub pixel: usize,
+    // the highest key at which a walk may start with a gap
+    pub slack: u16,
     pub reach: Reach,
 }
 

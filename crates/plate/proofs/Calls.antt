@@ -61,11 +61,11 @@ module _ (s : Setting) (clear : Clear (settingChecks s)) where
 setting-passed : (W H : ℕ) (s : Setting) (plate wanted result work : ℕ) → Clear (filterChecks W H s plate wanted result work) → Clear (settingChecks s)
 setting-passed W H s plate wanted result work clear =
     let setting = clear .1 in
-    (setting .0, (setting .1 .0, (setting .1 .1 .0, (setting .1 .1 .1 .0, tt))))
+    (setting .0, (setting .1 .0, (setting .1 .1 .0, (setting .1 .1 .1 .0, (setting .1 .1 .1 .1 .0, tt)))))
 
 pub passed : (W H : ℕ) (s : Setting) (plate wanted result work : ℕ) → Clear (filterChecks W H s plate wanted result work) → Passed W H s plate wanted result work
 passed W H s plate wanted result work clear =
-    let buffers = clear .1 .1 .1 .1 .1 in
+    let buffers = clear .1 .1 .1 .1 .1 .1 in
     let valid = setting-passed W H s plate wanted result work clear in
     record {
       size = good-size W H (clear .0);

@@ -1,4 +1,4 @@
--- The limits of document 01, sections 1, 2 and 5, with the readings and corrections of document 02, N1.
+-- The limits of document 01, sections 1, 2 and 5, with the readings and corrections of document 02, N1, and its `ends`, N5.
 use Prim.Native.Nat.{ℕ}
 use lib.IntN.{ℤ, pos, negsuc}
 
@@ -19,7 +19,7 @@ minCorrection = negsuc 16383
 abbrev pub maxCorrection : ℤ
 maxCorrection = pos 16383
 
--- the largest length, gap count, set of directions and mode of a setting
+-- the largest length, gap count, set of directions, mode and `ends` of a setting
 abbrev pub maxLength : ℕ
 maxLength = 1024
 
@@ -31,3 +31,6 @@ maxDirections = 15
 
 abbrev pub maxMode : ℕ
 maxMode = 1
+
+abbrev pub maxEnds : ℕ
+maxEnds = 1

@@ -1,7 +1,7 @@
 -- Document 01, section 3: opening and closing. The definition is that of source 001, sections 3 and 4, on grey levels: at most k pixels of a
--- path lie below the level, and a pixel never rises above its own.
+-- path lie below the level, and a pixel never rises above its own. With `ends` 1 (document 02, N5) the two ends of a path are none of those k.
 use Prim.Native.Nat.{ℕ, zero, suc, _+_}
-use mathlib.Core.Bool.{Bool, true, false, cond, _&&_}
+use mathlib.Core.Bool.{Bool, true, false, cond, not, _&&_, _||_}
 use mathlib.Core.List.{List, [], _∷_, map}
 use lib.Dec.{leb, eqb}
 use lib.ListN.{getD}
@@ -9,7 +9,7 @@ use lib.IntN.{ℤ}
 use lib.Signed.{ltZ}
 use Rattle.basics.specs.Lists.{any}
 use Rattle.plate.specs.Levels.{lowest, level, key, mirror}
-use Rattle.plate.specs.Paths.{places, paths, through}
+use Rattle.plate.specs.Paths.{places, paths, through, endsOf}
 use Rattle.plate.specs.declared.setting.Setting.{Setting}
 
 -- the level of a plate at a place
@@ -21,9 +21,9 @@ unfoldable pub below : List ℤ → ℤ → List ℕ → ℕ
 below f t [] = 0
 below f t (p ∷ path) = cond (ltZ (levelAt f p) t) 1 0 + below f t path
 
--- a path counts at the level t: at most k of its pixels are below t
+-- a path counts at the level t: at most k of its pixels are below t; and, with `ends` 1, neither of its two end pixels is
 unfoldable pub admits : Setting → List ℤ → ℤ → List ℕ → Bool
-admits s f t path = leb (below f t path) (s .gaps)
+admits s f t path = leb (below f t path) (s .gaps) && (not (eqb (s .ends) 1) || eqb (below f t (endsOf path)) 0)
 
 -- does one of these paths go through x and count at t?
 unfoldable pub kept : Setting → List (List ℕ) → List ℤ → ℕ → ℤ → Bool

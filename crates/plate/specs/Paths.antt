@@ -63,6 +63,16 @@ paths W H set L = flatMap (pathsIn W H L) (chosen set)
 unfoldable pub through : ℕ → List ℕ → Bool
 through x path = any (λ p. eqb p x) path
 
+-- the last of the pixels p and those after it
+unfoldable pub lastAfter : ℕ → List ℕ → ℕ
+lastAfter p [] = p
+lastAfter p (q ∷ path) = lastAfter q path
+
+-- the two end pixels of a path, its first and its last; a path of one pixel has it as both
+unfoldable pub endsOf : List ℕ → List ℕ
+endsOf [] = []
+endsOf (p ∷ path) = p ∷ lastAfter p path ∷ []
+
 -- does some path of length L, in a direction of the set, cross x?
 unfoldable pub crossed : ℕ → ℕ → ℕ → ℕ → ℕ → Bool
 crossed W H set L x = any (through x) (paths W H set L)

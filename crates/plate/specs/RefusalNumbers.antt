@@ -1,4 +1,4 @@
--- The numbers of the refusals, in the order of document 01's table (section 5). The definitions take them from here. The code has the same numbers as
+-- The numbers of the refusals, in the order of document 01's table (section 5), with those of document 02. The definitions take them from here. The code has the same numbers as
 -- constants (src/refusal.rt), and the contracts hold them to these: a call that refused with another number would not meet its own.
 use Prim.Native.Nat.{ℕ}
 
@@ -44,3 +44,7 @@ refusalLine = 13
 
 abbrev pub refusalLarge : ℕ
 refusalLarge = 14
+
+-- document 02, N5
+abbrev pub refusalEnds : ℕ
+refusalEnds = 18

@@ -1,4 +1,5 @@
--- Document 01, section 5: the refusal table. Each row is a check, and each call runs its checks in the table's order.
+-- Document 01, section 5: the refusal table, with document 02's refusal 18 between 5 and 6. Each row is a check, and each call runs its checks in the
+-- table's order.
 use Prim.Native.Nat.{ℕ, _+_, _*_}
 use mathlib.Core.Path.{_≡_}
 use mathlib.Core.Bool.{Bool, false, cond, not, _||_}
@@ -8,8 +9,8 @@ use lib.ListN.{length}
 use lib.IntN.{ℤ}
 use lib.Signed.{ltZ}
 use Rattle.basics.specs.Lists.{firstOf}
-use Rattle.plate.specs.Limits.{maxSide, maxPixels, maxReading, minCorrection, maxCorrection, maxLength, maxGaps, maxDirections, maxMode}
-use Rattle.plate.specs.RefusalNumbers.{refusalSize, refusalLength, refusalGaps, refusalDirections, refusalMode, refusalInput, refusalResult, refusalWork, refusalReading, refusalCorrection, refusalPlace, refusalNoPath}
+use Rattle.plate.specs.Limits.{maxSide, maxPixels, maxReading, minCorrection, maxCorrection, maxLength, maxGaps, maxDirections, maxMode, maxEnds}
+use Rattle.plate.specs.RefusalNumbers.{refusalSize, refusalLength, refusalGaps, refusalDirections, refusalMode, refusalEnds, refusalInput, refusalResult, refusalWork, refusalReading, refusalCorrection, refusalPlace, refusalNoPath}
 use Rattle.plate.specs.Levels.{signed}
 use Rattle.plate.specs.Paths.{crossed}
 use Rattle.plate.specs.Opening.{levelAt, filtered}
@@ -64,6 +65,10 @@ badDirections set = eqb set 0 || ltb maxDirections set
 unfoldable pub badMode : ℕ → Bool
 badMode mode = ltb maxMode mode
 
+-- ends above 1 (document 02, N5)
+unfoldable pub badEnds : ℕ → Bool
+badEnds ends = ltb maxEnds ends
+
 -- an input buffer hasn't exactly W × H numbers
 abbrev pub inputCheck : ℕ → ℕ → Check
 inputCheck pixels room = row refusalInput (not (eqb room pixels)) 0
@@ -106,9 +111,10 @@ settingChecks s =
     ∷ row refusalGaps (badGaps (s .gaps) (s .length)) 0
     ∷ row refusalDirections (badDirections (s .directions)) 0
     ∷ row refusalMode (badMode (s .mode)) 0
+    ∷ row refusalEnds (badEnds (s .ends)) 0
     ∷ []
 
--- making a setting: 2 to 5
+-- making a setting: 2 to 5, 18
 unfoldable pub settingVerdict : Setting → Verdict Setting
 settingVerdict s = judged (settingChecks s) s
 
@@ -125,7 +131,7 @@ correctionVerdict W H readings words room =
     ∷ [])
     tt
 
--- filters: 1 to 8, with the lengths of plate, result and work, and how many numbers the result has to have
+-- filters: 1 to 5, 18, 6 to 8, with the lengths of plate, result and work, and how many numbers the result has to have
 abbrev pub filterChecks : ℕ → ℕ → Setting → ℕ → ℕ → ℕ → ℕ → List Check
 filterChecks W H s plate wanted room work =
     sizeCheck W H
@@ -135,7 +141,7 @@ filterChecks W H s plate wanted room work =
 unfoldable pub filterVerdict : ℕ → ℕ → Setting → ℕ → ℕ → ℕ → Verdict Unit
 filterVerdict W H s plate room work = judged (filterChecks W H s plate (W * H) room work) tt
 
--- the trace: 1 to 8, 11, 12, with the length of the plate, the traced place x and the lengths of path and work
+-- the trace: the same, 11, 12, with the length of the plate, the traced place x and the lengths of path and work
 abbrev pub traceChecks : ℕ → ℕ → Setting → ℕ → ℕ → ℕ → ℕ → List Check
 traceChecks W H s plate x room work =
     filterChecks W H s plate (s .length) room work

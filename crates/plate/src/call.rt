@@ -1,5 +1,6 @@
-// The checks that calls have in common: 1 to 8 of document 01's table (section 5), in its order. A call asks
-// here before its first store, and goes on only where nothing is refused.
+// The checks that calls have in common: 1 to 8 of document 01's table (section 5), in its order, with 18 of
+// document 02 between 5 and 6. A call asks here before its first store, and goes on only where nothing is
+// refused.
 ghost use mathlib.Core.Path.{_≡_};
 ghost use Rattle.plate.specs.Answers.{answered, wantedFor, callVerdict};
 use crate::answer::Answer;
@@ -33,7 +34,7 @@ fn wanted(fills: Fills, pixels: usize, length: usize) -> usize
     }
 }
 
-// Refuses (1 to 8), or is done: then every number is within its bounds and every buffer as long as it has
+// Refuses (1 to 8, 18), or is done: then every number is within its bounds and every buffer as long as it has
 // to be. The size's product is formed only after the size has passed, and the work's length after the gaps.
 pub fn judge(width: usize, height: usize, setting: Setting, lent: Lent) -> Answer
     ensures { λ r. ⌜ answered r ≡ callVerdict width height setting lent ⌝ }

@@ -1,6 +1,6 @@
-// The numbers of the refusals, in the order of document 01's table (section 5). The definitions have them in
-// specs/RefusalNumbers.antt, and the contracts hold these to those: a call that refused with another number
-// would not meet its own.
+// The numbers of the refusals, in the order of document 01's table (section 5), with those of document 02. The
+// definitions have them in specs/RefusalNumbers.antt, and the contracts hold these to those: a call that
+// refused with another number would not meet its own.
 pub const SIZE: usize = 1;
 
 pub const LENGTH: usize = 2;
@@ -28,3 +28,5 @@ pub const NO_PATH: usize = 12;
 pub const LINE: usize = 13;
 
 pub const TEXT: usize = 14;
+
+pub const ENDS: usize = 18;

@@ -1,17 +1,19 @@
-// The setting of a filter or a trace, with its limits: made of four numbers, or refused (2 to 5). Its fields
-// are open, so every call that takes one checks it again.
+// The setting of a filter or a trace, with its limits: made of five numbers, or refused (2 to 5, 18). Its
+// fields are open, so every call that takes one checks it again.
 ghost use mathlib.Core.Path.{_≡_};
-ghost use Rattle.plate.specs.Refusals.{settingVerdict, badLength, badGaps, badDirections, badMode};
+ghost use Rattle.plate.specs.Refusals.{settingVerdict, badLength, badGaps, badDirections, badMode, badEnds};
 ghost use Rattle.plate.specs.Answers.{made};
 use crate::refusal;
 
 // A setting: the length of a path in pixels, the gaps allowed on it, the set of directions (the sum
-// of their bits; document 01: ways), and the mode, 0 for opening and 1 for closing.
+// of their bits; document 01: ways), the mode, 0 for opening and 1 for closing, and whether the two ends of
+// a path may be gaps, 0, or not, 1 (document 02, N5).
 pub struct Setting {
     pub length: usize,
     pub gaps: usize,
     pub directions: usize,
     pub mode: usize,
+    pub ends: usize,
 }
 
 pub enum Made {
@@ -28,7 +30,9 @@ impl Setting {
 
     pub const MAX_MODE: usize = 1;
 
-    // The setting itself, or the refusal (2 to 5) of the first number that is out of bounds.
+    pub const MAX_ENDS: usize = 1;
+
+    // The setting itself, or the refusal (2 to 5, 18) of the first number that is out of bounds.
     pub fn checked(self) -> Made
         ensures { λ r. ⌜ made r ≡ settingVerdict self ⌝ }
     {
@@ -56,18 +60,25 @@ impl Setting {
                 place: 0,
             };
         }
+        if bad_ends(self.ends) {
+            return Made::Refused {
+                number: refusal::ENDS,
+                place: 0,
+            };
+        }
         Made::Valid(self)
     }
 
-    // Makes a setting of four numbers, or refuses.
-    pub fn new(length: usize, gaps: usize, directions: usize, mode: usize) -> Made
-        ensures { λ r. ⌜ made r ≡ settingVerdict (record { length = length; gaps = gaps; directions = directions; mode = mode }) ⌝ }
+    // Makes a setting of five numbers, or refuses.
+    pub fn new(length: usize, gaps: usize, directions: usize, mode: usize, ends: usize) -> Made
+        ensures { λ r. ⌜ made r ≡ settingVerdict (record { length = length; gaps = gaps; directions = directions; mode = mode; ends = ends }) ⌝ }
     {
         let setting = Setting {
             length: length,
             gaps: gaps,
             directions: directions,
             mode: mode,
+            ends: ends,
         };
         setting.checked()
     }
@@ -104,4 +115,10 @@ fn bad_mode(mode: usize) -> bool
     ensures { λ r. ⌜ r ≡ badMode mode ⌝ }
 {
     mode > Setting::MAX_MODE
+}
+
+fn bad_ends(ends: usize) -> bool
+    ensures { λ r. ⌜ r ≡ badEnds ends ⌝ }
+{
+    ends > Setting::MAX_ENDS
 }

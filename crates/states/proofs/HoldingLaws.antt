@@ -135,13 +135,13 @@ module _ (p : Plan) (e m : ℕ) (work : List ℕ) (from : ℕ) (s : Slots) (old 
   -- a row of walks of no steps
   pub next-started : (mid new : List ℕ) → Beside p e m work from s old mid → Apart mid new (s .now) (s .now + blockOf p) → m < rowsIn p e →
       starts p e m ≡ true → (lo hi at : ℕ) → lo ≡ rowLo p e m → hi ≡ rowHi p e m → at ≡ rowAt p e m →
-      RowHeld new (s .now) (p .planes) (pitchOf p) lo hi (λ (j x : ℕ). gate (startsAt p m x) (alone (getD work (at + x) 0) j)) →
+      RowHeld new (s .now) (p .planes) (pitchOf p) lo hi (λ (j x : ℕ). gate (startsAt p m x) (alone (p .slack) (getD work (at + x) 0) j)) →
       NextRow p e m work from s old new
   next-started mid new b a hm st lo hi at el eh ea h =
       next-of mid new b a
       (λ last this stands grown ready.
       held-by new (s .now) (p .planes) (pitchOf p) lo hi (rowLo p e m) (rowHi p e m) _ (this m) h el eh
-      (λ j x hj l k. ap (λ (q : ℕ). gate (startsAt p m x) (alone (getD work (q + x) 0) j)) ea ∙ sym (grown .first m j x hm hj l k st)))
+      (λ j x hj l k. ap (λ (q : ℕ). gate (startsAt p m x) (alone (p .slack) (getD work (q + x) 0) j)) ea ∙ sym (grown .first m j x hm hj l k st)))
 
 -- ---- where a step's row begins
 

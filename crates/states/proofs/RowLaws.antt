@@ -1,5 +1,5 @@
 -- Laws of rows: what the planes that a loop has written say of a row that is put, held, stored, started, blended or joined.
-use Prim.Native.Nat.{ℕ, zero, suc, _+_, _-_, _*_, _≤_, _<_}
+use Prim.Native.Nat.{ℕ, zero, suc, _+_, _-_, _*_, _≤_, _<_, max}
 use mathlib.Core.Path.{_≡_, refl, sym, ap, _∙_, subst}
 use mathlib.Core.Bool.{Bool, true, false, _&&_}
 use mathlib.Core.Logic.{_⊎_, inl, inr}
@@ -15,7 +15,7 @@ use Rattle.states.specs.Rows.{gate, inRow, RowPut, RowHeld, RowStored, S
 use Rattle.plans.specs.declared.plan.Plan.{Plan}
 use Rattle.theory.specs.BestWalks.{alone}
 use Rattle.plans.proofs.PlanSizes.{plane-fits}
-use Rattle.states.proofs.PlaneLaws.{In, Either, Planes, planes-none, copied-more}
+use Rattle.states.proofs.PlaneLaws.{In, Either, Planes, planes-none, planes-more, plane-run, copied-more}
 
 -- ---- a row by its places
 
@@ -102,38 +102,62 @@ row-stored held old new slot planes pitch at across lo hi s f h =
 
 -- ---- rows that start
 
--- the highest key of a walk that may have a gap is the highest of all
-pub alone-later : (a j : ℕ) → 1 ≤ j → 65535 ≡ alone a j
+-- the highest key of a walk of no steps: the pixel's own, and not below the slack where it may be a gap
+alone-first : (slack a : ℕ) → a ≡ alone slack a 0
 unfolding alone
-alone-later a zero l = absurd (omega arith)
-alone-later a (suc j) l = refl
+alone-first slack a = refl
 
-pub alone-first : (a : ℕ) → a ≡ alone a 0
+alone-later : (slack a j : ℕ) → 1 ≤ j → max a slack ≡ alone slack a j
 unfolding alone
-alone-first a = refl
+alone-later slack a zero l = absurd (omega arith)
+alone-later slack a (suc j) l = refl
 
--- plane 0 of walks that start is their keys
-pub started-first :
-    (keys old new : List ℕ) (slot pitch at first past low n start : ℕ) →
-    Between (λ k. getD keys (start + (k - low)) 0) old new low (low + n) →
-    low ≡ slot + 1 + first →
-    start ≡ at + first →
-    first + n ≡ past →
-    past + 1 ≤ pitch →
-    Planes (In (first + 1) (past + 1)) (λ j X. alone (getD keys (at + (X - 1)) 0) j) old new slot pitch 1
-started-first keys old new slot pitch at first past low n start b el es en fits =
-    copied-more keys _ old old new slot pitch 0 (first + 1) (past + 1) low n start (planes-none _ _ old slot pitch) b (omega arith) (omega arith) fits
-    (λ X p q. ap (λ (k : ℕ). getD keys k 0) (let e : start + (X - (first + 1)) ≡ at + (X - 1) = omega arith in e) ∙ alone-first (getD keys (at + (X - 1)) 0))
+-- the planes below `count` of a slot hold the walks of no steps at the pixels from first below past
+abbrev pub StartedBelow : Plan → (ℕ → ℕ) → ℕ → ℕ → ℕ → List ℕ → List ℕ → ℕ → Type 0
+StartedBelow p key slot first past old new count =
+    Planes (In (first + 1) (past + 1)) (λ (j X : ℕ). alone (p .slack) (key (X - 1)) j) old new slot (pitchOf p) count
+
+module _ (p : Plan) (keys : List ℕ) (slot at first past : ℕ) (fits : past ≤ p .across) where
+  -- plane 0 is their keys
+  pub started-first :
+      (old new : List ℕ) (low n start : ℕ) →
+      Between (λ k. getD keys (start + (k - low)) 0) old new low (low + n) →
+      low ≡ slot + 1 + first →
+      start ≡ at + first →
+      first + n ≡ past →
+      StartedBelow p (λ x. getD keys (at + x) 0) slot first past old new 1
+  started-first old new low n start b el es en =
+      copied-more keys _ old old new slot (pitchOf p) 0 (first + 1) (past + 1) low n start (planes-none _ _ old slot (pitchOf p)) b
+      (omega arith) (omega arith) (omega arith)
+      (λ X l m. ap (λ (k : ℕ). getD keys k 0) (let e : start + (X - (first + 1)) ≡ at + (X - 1) = omega arith in e)
+      ∙ alone-first (p .slack) (getD keys (at + (X - 1)) 0))
+
+  -- a plane more is their keys raised to the slack
+  pub started-later :
+      (old mid new : List ℕ) (j low n start v : ℕ) →
+      StartedBelow p (λ x. getD keys (at + x) 0) slot first past old mid j →
+      Between (λ k. max (getD keys (start + (k - low)) 0) v) mid new low (low + n) →
+      v ≡ p .slack →
+      1 ≤ j →
+      low ≡ slot + 1 + first + j * pitchOf p →
+      start ≡ at + first →
+      first + n ≡ past →
+      StartedBelow p (λ x. getD keys (at + x) 0) slot first past old new (j + 1)
+  started-later old mid new j low n start v s b ev l el es en =
+      planes-more _ _ old mid new slot (pitchOf p) j (λ X i. omega (arith, i)) s
+      (plane-run _ _ mid new slot (j * pitchOf p) (pitchOf p) (first + 1) (past + 1) low (low + n) b (omega arith) (omega arith) (omega arith)
+      (λ X a o. ap (λ (k : ℕ). max (getD keys k 0) v) (let e : start + (slot + (j * pitchOf p + X) - low) ≡ at + (X - 1) = omega arith in e)
+      ∙ ap (max (getD keys (at + (X - 1)) 0)) ev ∙ alone-later (p .slack) (getD keys (at + (X - 1)) 0) j l))
 
 pub row-started :
     (old new : List ℕ) (key : ℕ → ℕ) (slot : ℕ) (p : Plan) (first past : ℕ) →
     past ≤ p .across →
-    Planes (In (first + 1) (past + 1)) (λ j X. alone (key (X - 1)) j) old new slot (pitchOf p) (p .planes) →
+    StartedBelow p key slot first past old new (p .planes) →
     Started old new key slot p first past
 row-started old new key slot p first past fits s =
     record {
       inside = λ j x l a b.
-          s .inside j (x + 1) l (omega arith, omega arith) ∙ ap (λ (y : ℕ). alone (key y) j) (let e : x + 1 - 1 ≡ x = omega arith in e);
+          s .inside j (x + 1) l (omega arith, omega arith) ∙ ap (λ (y : ℕ). alone (p .slack) (key y) j) (let e : x + 1 - 1 ≡ x = omega arith in e);
       outside = λ j X l m o. s .outside j X m (λ i. elim o [ inl u ↦ omega (arith, i) | inr u ↦ omega (arith, i) ]);
       apart = s .apart;
     }
@@ -158,7 +182,7 @@ module _ (old zeros : List ℕ) (slot : ℕ) (p : Plan) (lo hi : ℕ) (f : ℕ �
       Started zeros new key slot p first past →
       lo ≤ first →
       past ≤ hi →
-      ((j x : ℕ) → first ≤ x → x < past → alone (key x) j ≡ f j x) →
+      ((j x : ℕ) → first ≤ x → x < past → alone (p .slack) (key x) j ≡ f j x) →
       ((j x : ℕ) → lo ≤ x → x < hi → (x < first) ⊎ (past ≤ x) → 0 ≡ f j x) →
       RowHeld new slot (p .planes) (pitchOf p) lo hi f
   started-held new key first past s after before some none =

@@ -29,7 +29,7 @@ pub grown-keys : (p : Plan) (e : ℕ) (keys keys₁ : ℕ → ℕ) (last this : 
     ((q : ℕ) → q < keysSize p → keys₁ q ≡ keys q) → Grown p e keys last this → Grown p e keys₁ last this
 grown-keys p e keys keys₁ last this sound he same g =
     record {
-      first = λ m j x hm hj l k st. g .first m j x hm hj l k st ∙ ap (λ (v : ℕ). gate (startsAt p m x) (alone v j)) (sym (key m x hm k));
+      first = λ m j x hm hj l k st. g .first m j x hm hj l k st ∙ ap (λ (v : ℕ). gate (startsAt p m x) (alone (p .slack) v j)) (sym (key m x hm k));
       later = λ m j x hm hj l k st. g .later m j x hm hj l k st
           ∙ ap (λ (v : ℕ). max (min v (ahead p e last this (suc j) m x)) (ahead p e last this j m x)) (sym (key m x hm k));
     }

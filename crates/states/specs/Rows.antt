@@ -54,7 +54,7 @@ pub record RowJoined (old new : List ℕ) (at planes lo hi : ℕ) (f g : ℕ →
 
 -- the walks of no steps at the pixels from first below past of a slot, and the slot as it was elsewhere
 pub record Started (old new : List ℕ) (key : ℕ → ℕ) (slot : ℕ) (p : Plan) (first past : ℕ) : Type 0 where
-  pub inside : (j x : ℕ) → j < p .planes → first ≤ x → x < past → getD new (slot + (j * pitchOf p + (x + 1))) 0 ≡ alone (key x) j
+  pub inside : (j x : ℕ) → j < p .planes → first ≤ x → x < past → getD new (slot + (j * pitchOf p + (x + 1))) 0 ≡ alone (p .slack) (key x) j
   pub outside : (j X : ℕ) → j < p .planes → X < pitchOf p → (X < first + 1) ⊎ (past + 1 ≤ X) →
       getD new (slot + (j * pitchOf p + X)) 0 ≡ getD old (slot + (j * pitchOf p + X)) 0
   pub apart : Apart old new slot (slot + blockOf p)

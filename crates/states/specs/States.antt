@@ -40,7 +40,7 @@ ahead p e last this (suc j) m x =
 -- this is the state e, by the keys and the state before: its starting rows are the walks of no steps, the others come from the rows beside
 pub record Grown (p : Plan) (e : ℕ) (keys : ℕ → ℕ) (last this : ℕ → ℕ → ℕ → ℕ) : Type 0 where
   pub first : (m j x : ℕ) → m < rowsIn p e → j < p .planes → rowLo p e m ≤ x → x < rowHi p e m → starts p e m ≡ true →
-      this m j x ≡ gate (startsAt p m x) (alone (keys (rowAt p e m + x)) j)
+      this m j x ≡ gate (startsAt p m x) (alone (p .slack) (keys (rowAt p e m + x)) j)
   pub later : (m j x : ℕ) → m < rowsIn p e → j < p .planes → rowLo p e m ≤ x → x < rowHi p e m → starts p e m ≡ false →
       this m j x ≡ max (min (keys (rowAt p e m + x)) (ahead p e last this (suc j) m x)) (ahead p e last this j m x)
 

@@ -13,6 +13,7 @@ use crate::runs::blend_next;
 use crate::runs::copy_run;
 use crate::runs::fill_run;
 use crate::runs::fold_run;
+use crate::runs::raise_run;
 use plans::Plan;
 use plans::Row;
 
@@ -74,9 +75,9 @@ pub(crate) fn store_row(
     }
 }
 
-// The walks of no steps from pixel `first` below `past`: the key in plane 0, and the highest key in the
-// others, since a pixel alone that may be a gap counts at every level. This is the one place that says
-// what a walk starts with, on either side.
+// The walks of no steps from pixel `first` below `past`: the key in plane 0, and in the others the key
+// raised to the plan's slack, up to which the pixel may be a gap. This is the one place that says what a
+// walk starts with, on either side.
 fn start_run(
     held: &mut [u16],
     slot: usize,
@@ -91,11 +92,12 @@ fn start_run(
     ensures { λ _. ⌜ Started (now (held .entry)) (now (held .exit)) (λ (x : ℕ). getD (now (keys .entry)) (at + x) 0) slot plan first past ⌝ }
 {
     let n = past - first;
-    copy_run(held, slot + 1 + first, keys, at + first, n);
+    let start = at + first;
+    copy_run(held, slot + 1 + first, keys, start, n);
     let mut j = 1;
     let mut to = slot + 1 + first + (plan.across + 10);
     while j < plan.planes {
-        fill_run(held, to, n, 65535);
+        raise_run(held, to, keys, start, n, plan.slack);
         j += 1;
         to += plan.across + 10;
     }
@@ -104,7 +106,7 @@ fn start_run(
 // The walks of no steps at the pixels of a row where a walk may start, and zeros elsewhere.
 pub(crate) fn start_row(held: &mut [u16], slot: usize, keys: &[u16], plan: Plan, row: Row, m: usize)
     requires { ⌜ (RowOf plan row) × (SlotOf plan slot (length (now held))) × (row .at + plan .across ≤ length (now keys)) ⌝ }
-    ensures { λ _. ⌜ RowHeld (now (held .exit)) slot (plan .planes) (pitchOf plan) (row .lo) (row .hi) (λ (j x : ℕ). gate (startsAt plan m x) (alone (getD (now (keys .entry)) (row .at + x) 0) j)) ⌝ }
+    ensures { λ _. ⌜ RowHeld (now (held .exit)) slot (plan .planes) (pitchOf plan) (row .lo) (row .hi) (λ (j x : ℕ). gate (startsAt plan m x) (alone (plan .slack) (getD (now (keys .entry)) (row .at + x) 0) j)) ⌝ }
     ensures { λ _. ⌜ Apart (now (held .entry)) (now (held .exit)) slot (slot + blockOf plan) ⌝ }
 {
     fill_run(held, slot, plan.planes * (plan.across + 10), 0);

@@ -29,6 +29,18 @@ pub(crate) fn copy_run(to: &mut [u16], at: usize, from: &[u16], start: usize, n:
     }
 }
 
+// to[at + c] is the greater of from[start + c] and v, for c below n.
+pub(crate) fn raise_run(to: &mut [u16], at: usize, from: &[u16], start: usize, n: usize, v: u16)
+    requires { ⌜ (at + n ≤ length (now to)) × (start + n ≤ length (now from)) ⌝ }
+    ensures { λ _. ⌜ Between (λ (k : ℕ). max (getD (now (from .entry)) (start + (k - at)) 0) v) (now (to .entry)) (now (to .exit)) at (at + n) ⌝ }
+{
+    let mut c = 0;
+    while c < n {
+        to[at + c] = max2(from[start + c], v);
+        c += 1;
+    }
+}
+
 // to[at + c] = v for c below n.
 pub(crate) fn fill_run(to: &mut [u16], at: usize, n: usize, v: u16)
     requires { ⌜ at + n ≤ length (now to) ⌝ }

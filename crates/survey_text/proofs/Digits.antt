@@ -1,8 +1,9 @@
--- Laws of decimal digits that are read: a walk over them holds the value of those it has passed, and the number is what it holds at the end.
+-- Laws of decimal digits that are read: a walk over them holds the value of those it has passed, and the number is what it holds at the end. An edition
+-- is a single digit.
 use Prim.Native.Nat.{ℕ, _+_, _-_, _*_, _^_, _≤_, _<_}
-use mathlib.Core.Path.{_≡_, _∙_}
+use mathlib.Core.Path.{_≡_, refl, _∙_}
 use mathlib.Core.Bool.{true, false, cond, _&&_}
-use mathlib.Core.List.{List}
+use mathlib.Core.List.{List, [], _∷_}
 use mathlib.Core.Option.{Option, none, some}
 use mathlib.Core.Logic.{⊎-elim}
 use native.Mathlib.Numerals.{add-one}
@@ -11,10 +12,10 @@ use native.Mathlib.Omega.{arith}
 use lib.Dec.{leb}
 use lib.ListN.{length, getD, drop, drop-of-length-le}
 use lib.Seq.{drop-cons}
-use borrow.Author.Tests.{leb-true, le-leb}
+use borrow.Author.Tests.{leb-true, le-leb, eq-eqb, ne-eqb}
 use Rattle.basics.proofs.Tests.{true-or-false, and-both, true-T, T-true}
 use Rattle.survey_text.specs.Bytes.{zeroDigit}
-use Rattle.survey_text.specs.Format.{_>>=_, maxDigits, maxNumber, isDigit, valueAfter, number}
+use Rattle.survey_text.specs.Format.{_>>=_, maxDigits, maxNumber, is, isDigit, valueAfter, number, edition}
 
 pub digit-range : (b : ℕ) → isDigit b ≡ true → (48 ≤ b) × (b ≤ 57)
 unfolding isDigit
@@ -60,3 +61,32 @@ ten-more v d i h k = rw (add-one, pow-suc 10 i) (omega arith)
 
 pub ten-small : (v i : ℕ) → v < 10 ^ i → i ≤ 6 → v < 1000000
 ten-small v i h k = let p : 10 ^ i ≤ 10 ^ 6 = pow-le-pow-right (omega arith) k in omega arith
+
+-- ---- editions
+
+pub edition-sized : (s : List ℕ) → (length s ≡ 1 → ⊥) → edition s ≡ none
+unfolding edition
+edition-sized [] h = refl
+edition-sized (b ∷ []) h = absurd (h refl)
+edition-sized (b ∷ c ∷ bs) h = refl
+
+-- the definition, at the one byte
+edition-byte : (s : List ℕ) → length s ≡ 1 → edition s ≡ cond (is 49 (getD s 0 0)) (some 1) (cond (is 50 (getD s 0 0)) (some 2) none)
+unfolding edition
+edition-byte [] h = absurd (omega arith)
+edition-byte (b ∷ []) h = refl
+edition-byte (b ∷ c ∷ bs) h = absurd (omega arith)
+
+module _ (s : List ℕ) (one : length s ≡ 1) where
+  pub edition-one : getD s 0 0 ≡ 49 → edition s ≡ some 1
+  unfolding is
+  edition-one e = edition-byte s one ∙ rw (eq-eqb (getD s 0 0) 49 e)
+
+  module _ (other : getD s 0 0 ≡ 49 → ⊥) where
+    pub edition-two : getD s 0 0 ≡ 50 → edition s ≡ some 2
+    unfolding is
+    edition-two e = edition-byte s one ∙ rw (ne-eqb (getD s 0 0) 49 other, eq-eqb (getD s 0 0) 50 e)
+
+    pub edition-none : (getD s 0 0 ≡ 50 → ⊥) → edition s ≡ none
+    unfolding is
+    edition-none e = edition-byte s one ∙ rw (ne-eqb (getD s 0 0) 49 other, ne-eqb (getD s 0 0) 50 e)

@@ -8,8 +8,8 @@ use borrow.Author.Tests.{ltb-false, lt-ltb, le-ltb}
 use lib.Dec.{ltb}
 use Rattle.plate.specs.Refusals.{Verdict.accepted, row, badSize, judged, sizeCheck}
 use Rattle.survey_text.specs.Bytes.{bytes}
-use Rattle.survey_text.specs.Format.{number, nothing}
-use Rattle.survey_text.specs.Reading.{maxPlate, PlateText, Rest, next, opening, sizeJudged, sizeLines, settingLines, plateLines, reading}
+use Rattle.survey_text.specs.Format.{number}
+use Rattle.survey_text.specs.Reading.{maxPlate, PlateText, Rest, next, opening, sizeJudged, editionLine, sizeLines, settingLines, plateLines, reading}
 use Rattle.survey_text.specs.Cursors.{stands, Counted, Step}
 use Rattle.survey_text.specs.declared.cursor.Cursor.{Cursor}
 use Rattle.survey_text.proofs.Verdicts.{accepted-same, steps-accepted, check-passed, checks-passed}
@@ -21,24 +21,24 @@ pub record Sized (W H : ℕ) : Type 0 where
 size-accepted : (l : Rest) (x : (ℕ × ℕ) × Rest) → accepted x ≡ sizeLines l → Sized (x .0 .0) (x .0 .1)
 unfolding sizeLines sizeJudged
 size-accepted l x e =
-    let a = steps-accepted (next (bytes "plate=1") nothing l) _ x e in
-    let b = steps-accepted (next (bytes "width=") number (a .0 .1)) _ x (a .2) in
-    let c = steps-accepted (next (bytes "height=") number (b .0 .1)) _ x (b .2) in
-    let W = b .0 .0 in
-    let H = c .0 .0 in
-    let p = check-passed (sizeCheck W H) _ _ x (c .2) in
+    let a = steps-accepted (next (bytes "width=") number l) _ x e in
+    let b = steps-accepted (next (bytes "height=") number (a .0 .1)) _ x (a .2) in
+    let W = a .0 .0 in
+    let H = b .0 .0 in
+    let p = check-passed (sizeCheck W H) _ _ x (b .2) in
     let q = check-passed (row 14 (ltb maxPlate (W * H)) 0) [] _ x (p .1) in
-    let r : x ≡ ((W, H), c .0 .1) = checks-passed [] _ x (q .1) in
+    let r : x ≡ ((W, H), b .0 .1) = checks-passed [] _ x (q .1) in
     rw r (record { good = p .0; small = ltb-false maxPlate (W * H) (q .0) })
 
 pub reading-sized : (text : List ℕ) (t : PlateText) → accepted t ≡ reading text → Sized (t .width) (t .height)
 unfolding reading
 reading-sized text t e =
     let a = steps-accepted (opening text) _ t e in
-    let b = steps-accepted (sizeLines (a .0)) _ t (a .2) in
-    let c = steps-accepted (settingLines (b .0 .1)) _ t (b .2) in
-    let d = steps-accepted (plateLines (b .0 .0 .0) (b .0 .0 .1) (c .0 .1)) _ t (c .2) in
-    subst (λ (u : PlateText). Sized (u .width) (u .height)) (sym (accepted-same t _ (d .2))) (size-accepted (a .0) (b .0) (b .1))
+    let b = steps-accepted (editionLine (a .0)) _ t (a .2) in
+    let c = steps-accepted (sizeLines (b .0 .1)) _ t (b .2) in
+    let d = steps-accepted (settingLines (b .0 .0) (c .0 .1)) _ t (c .2) in
+    let f = steps-accepted (plateLines (c .0 .0 .0) (c .0 .0 .1) (d .0 .1)) _ t (d .2) in
+    subst (λ (u : PlateText). Sized (u .width) (u .height)) (sym (accepted-same t _ (f .2))) (size-accepted (b .0 .1) (c .0) (c .1))
 
 -- ---- the size is judged where the cursor stands
 

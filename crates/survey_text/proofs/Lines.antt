@@ -1,6 +1,6 @@
 -- Laws of the next line, for a reader that stands at a place of the text and has found how many bytes stand before the newline.
 use Prim.Native.Nat.{ℕ, suc, _+_, _-_, _≤_, _<_}
-use mathlib.Core.Path.{_≡_, refl, sym, _∙_}
+use mathlib.Core.Path.{_≡_, sym, _∙_}
 use mathlib.Core.List.{List, [], _∷_}
 use mathlib.Core.Option.{Option, none, some}
 use mathlib.Core.Logic.{⊎-elim}
@@ -12,7 +12,7 @@ use Rattle.basics.specs.Lists.{firstOf}
 use Rattle.basics.proofs.Lists.{drop-take}
 use Rattle.basics.proofs.Tests.{true-or-false}
 use Rattle.survey_text.specs.Bytes.{newline}
-use Rattle.survey_text.specs.Format.{is, nextLine, after, named, nothing}
+use Rattle.survey_text.specs.Format.{is, nextLine, after, named}
 
 -- a name that a line begins with is no longer than the line
 pub after-fits : (name l v : List ℕ) → after name l ≡ some v → length name ≤ length l
@@ -58,14 +58,3 @@ module _ (s name : List ℕ) (at n : ℕ) (found : n ≡ firstOf (is newline) (d
   pub name-fits : at + n < length s → some (drop (length name) (take (at + n - at) (drop at s))) ≡ after name (take (at + n - at) (drop at s)) → length name ≤ n
   name-fits h e = let f = rw line-part at (sym e) in
       omega (arith, after-fits name _ _ f, length-take-le n (drop at s) (simp length-drop (omega arith)))
-
--- whether something stands behind a name
-pub something : (value : List ℕ) → 0 < length value → none ≡ nothing value
-unfolding nothing
-something [] h = absurd (omega arith)
-something (b ∷ bs) h = refl
-
-pub nothing-more : (value : List ℕ) → length value ≤ 0 → some tt ≡ nothing value
-unfolding nothing
-nothing-more [] h = refl
-nothing-more (b ∷ bs) h = absurd (omega arith)

@@ -1,6 +1,6 @@
 -- Laws of the reader's steps: what a cursor stands for, a line that is read or refused at one, and a step in front of what the definition does next.
 use Prim.Native.Nat.{ℕ, _+_, _≤_, _<_}
-use mathlib.Core.Path.{_≡_, sym, _∙_}
+use mathlib.Core.Path.{_≡_, refl, sym, _∙_}
 use mathlib.Core.List.{List}
 use mathlib.Core.Option.{Option, none, some}
 use native.Mathlib.Omega.{arith}
@@ -8,8 +8,9 @@ use lib.ListN.{drop}
 use borrow.Author.Tests.{lt-ltb, le-ltb}
 use Rattle.plate.specs.Refusals.{Verdict, Verdict.accepted, Verdict.refused}
 use Rattle.plate.specs.declared.setting.Setting.{Setting}
-use Rattle.survey_text.specs.Format.{named}
-use Rattle.survey_text.specs.Reading.{_>>=_, Rest, next, opening, sizeLines, settingLines, plateLines, reading}
+use Rattle.survey_text.specs.Bytes.{bytes}
+use Rattle.survey_text.specs.Format.{named, number}
+use Rattle.survey_text.specs.Reading.{_>>=_, Rest, next, opening, editionLine, sizeLines, endsLine, settingLines, plateLines, reading}
 use Rattle.survey_text.specs.Cursors.{restFrom, stands, Counted, Step, Last}
 use Rattle.survey_text.specs.declared.cursor.Cursor.{Cursor}
 use Rattle.survey_text.proofs.NextLine.{next-no-name, next-no-value, next-value}
@@ -74,10 +75,28 @@ module _ {A : Type 0} (text name : List ℕ) (form : List ℕ → Option A) (c :
         counted = record { few = omega (arith, counted .few) };
       }
 
+-- ---- the line that not every edition has
+
+-- two parts that read alike
+same-part : {A : Type 0} (v : Verdict Rest) (part other : Rest → Verdict A) → ((l : Rest) → part l ≡ other l) → (v >>= part) ≡ (v >>= other)
+same-part (accepted l) part other h = h l
+same-part (refused n p) part other h = refl
+
+module _ (text : List ℕ) (e : ℕ) (c : Cursor) where
+  -- an edition without it
+  pub ends-absent : Counted c → e < 2 → Step text c (endsLine e) 0 c
+  unfolding endsLine
+  ends-absent n h = record { told = same-part (stands text c) _ _ (λ l. rw (lt-ltb e 2 h)); counted = n }
+
+  -- an edition with it
+  pub ends-there : (value : ℕ) (d : Cursor) → 2 ≤ e → Step text c (next (bytes "ends=") number) value d → Step text c (endsLine e) value d
+  unfolding endsLine
+  ends-there value d h s = record { told = s .told ∙ same-part (stands text c) _ _ (λ l. rw (le-ltb e 2 h)); counted = s .counted }
+
 -- ---- the stages of a whole text
 
-pub stages : {text : List ℕ} {a b c d : Cursor} {W H : ℕ} {s : Setting} {x : ℕ} {readings words : List ℕ} → stands text a ≡ opening text → Step text a sizeLines (W, H) b →
-    Step text b settingLines (s, x) c → Last text c (plateLines W H) (readings, words) d →
-    (stands text d >>= λ l. accepted (record { width = W; height = H; setting = s; at = x; readings = readings; words = words })) ≡ reading text
+pub stages : {text : List ℕ} {a b c d f : Cursor} {e W H : ℕ} {s : Setting} {x : ℕ} {readings words : List ℕ} → stands text a ≡ opening text → Step text a editionLine e b →
+    Step text b sizeLines (W, H) c → Step text c (settingLines e) (s, x) d → Last text d (plateLines W H) (readings, words) f →
+    (stands text f >>= λ l. accepted (record { width = W; height = H; setting = s; at = x; readings = readings; words = words })) ≡ reading text
 unfolding reading
-stages e size setting plate = sym (rw (← e) (then-on _ size ∙ then-on _ setting ∙ then-end _ plate))
+stages h edition size setting plate = sym (rw (← h) (then-on _ edition ∙ then-on _ size ∙ then-on _ setting ∙ then-end _ plate))

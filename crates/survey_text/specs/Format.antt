@@ -1,4 +1,5 @@
--- Document 01, section 6: the format of a plate's text, as lists of bytes. A part that does not have its form is `none`, malformed.
+-- Document 01, section 6: the format of a plate's text, as lists of bytes, in both editions (document 02, N5). A part that does not have its form is
+-- `none`, malformed.
 use Prim.Native.Nat.{ℕ, zero, suc, _+_, _-_, _*_}
 use mathlib.Core.Bool.{Bool, cond, _&&_}
 use mathlib.Core.List.{List, [], _∷_}
@@ -40,6 +41,12 @@ unfoldable pub number : List ℕ → Option ℕ
 number bs = cond (leb 1 (length bs) && leb (length bs) maxDigits)
     (valueAfter 0 bs >>= λ v. cond (leb v maxNumber) (some v) none)
     none
+
+-- the edition of the format: the digit 1 or the digit 2, and nothing else
+unfoldable pub edition : List ℕ → Option ℕ
+edition [] = none
+edition (b ∷ []) = cond (is (zeroDigit + 1) b) (some 1) (cond (is (zeroDigit + 2) b) (some 2) none)
+edition (b ∷ c ∷ bs) = none
 
 -- ---- lists
 
@@ -85,8 +92,3 @@ named name bs = do
   (line, rest) ← nextLine bs
   value ← after name line
   some (value, rest)
-
--- nothing more: the name is the whole line
-unfoldable pub nothing : List ℕ → Option (Unit {0})
-nothing [] = some tt
-nothing (b ∷ bs) = none

@@ -1,6 +1,7 @@
 -- Document 01, section 6: reading a plate's text, in the order in which it is judged: the text's length, the lines up to `height=`, refusals 1 and 14
--- on the size, then the other lines.
+-- on the size, then the other lines. Both editions (document 02, N5) are read by these rules; edition 2 has one line more, `ends=`.
 use Prim.Native.Nat.{ℕ, zero, suc, _+_, _*_}
+use mathlib.Core.Bool.{cond}
 use mathlib.Core.List.{List, [], _∷_, _++_}
 use mathlib.Core.Option.{Option, none, some}
 use lib.Dec.{ltb}
@@ -9,7 +10,7 @@ use Rattle.plate.specs.RefusalNumbers.{refusalLine, refusalLarge}
 use Rattle.plate.specs.Refusals.{Verdict, Verdict.accepted, Verdict.refused, row, judged, sizeCheck}
 use Rattle.plate.specs.declared.setting.Setting.{Setting}
 use Rattle.survey_text.specs.Bytes.{bytes}
-use Rattle.survey_text.specs.Format.{_>>=_ as _then_, number, list, named, nothing}
+use Rattle.survey_text.specs.Format.{_>>=_ as _then_, number, edition, list, named}
 
 -- the longest text, in bytes, and the largest plate, in pixels, of the program
 abbrev pub maxBytes : ℕ
@@ -61,23 +62,31 @@ opening text = judged (row refusalLarge (ltb maxBytes (length text)) 0 ∷ []) (
 unfoldable pub sizeJudged : ℕ → ℕ → Rest → Verdict ((ℕ × ℕ) × Rest)
 sizeJudged W H l = judged (sizeCheck W H ∷ row refusalLarge (ltb maxPlate (W * H)) 0 ∷ []) ((W, H), l)
 
--- the lines up to `height=`, then the size is judged
+-- the first line: which edition the text is of
+unfoldable pub editionLine : Rest → Verdict (ℕ × Rest)
+editionLine l = next (bytes "plate=") edition l
+
+-- the lines `width=` and `height=`, then the size is judged
 unfoldable pub sizeLines : Rest → Verdict ((ℕ × ℕ) × Rest)
 sizeLines l = do
-  (_, l) ← next (bytes "plate=1") nothing l
   (W, l) ← next (bytes "width=") number l
   (H, l) ← next (bytes "height=") number l
   sizeJudged W H l
 
--- the setting, and the pixel to trace
-unfoldable pub settingLines : Rest → Verdict ((Setting × ℕ) × Rest)
-settingLines l = do
+-- editions before 2 have no line `ends=`, and mean 0
+unfoldable pub endsLine : ℕ → Rest → Verdict (ℕ × Rest)
+endsLine e l = cond (ltb e 2) (accepted (0, l)) (next (bytes "ends=") number l)
+
+-- the setting, and the pixel to trace, in edition e
+unfoldable pub settingLines : ℕ → Rest → Verdict ((Setting × ℕ) × Rest)
+settingLines e l = do
   (L, l) ← next (bytes "length=") number l
   (k, l) ← next (bytes "gaps=") number l
+  (ends, l) ← endsLine e l
   (ways, l) ← next (bytes "ways=") number l
   (mode, l) ← next (bytes "mode=") number l
   (x, l) ← next (bytes "at=") number l
-  accepted ((record { length = L; gaps = k; directions = ways; mode = mode }, x), l)
+  accepted ((record { length = L; gaps = k; directions = ways; mode = mode; ends = ends }, x), l)
 
 -- H lines of W numbers each, row by row
 unfoldable pub rowLines : List ℕ → ℕ → ℕ → Rest → Verdict (List ℕ × Rest)
@@ -99,7 +108,8 @@ plateLines W H l = do
 unfoldable pub reading : List ℕ → Verdict PlateText
 reading text = do
   l ← opening text
+  (e, l) ← editionLine l
   ((W, H), l) ← sizeLines l
-  ((setting, x), l) ← settingLines l
+  ((setting, x), l) ← settingLines e l
   (readings, words) ← plateLines W H l
   accepted (record { width = W; height = H; setting = setting; at = x; readings = readings; words = words })

@@ -19,7 +19,7 @@ pub record Survey : Type 0 where
   pub at : ℕ
   pub levels : List ℤ
 
--- what was read is corrected (9, 10), and its setting is made (2 to 5)
+-- what was read is corrected (9, 10), and its setting is made (2 to 5, 18)
 unfoldable pub prepared : PlateText → Verdict Survey
 prepared t = do
   let W = t .width

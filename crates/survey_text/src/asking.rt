@@ -51,7 +51,7 @@ fn fill(head: Header, readings: &[u16], words: &[u16], levels: &mut [i16]) -> Re
 }
 
 // The head, if its readings and words can be corrected and its setting is within the limits. The
-// correction is tried in an array that is thrown away, since 9 and 10 come before 2 to 5.
+// correction is tried in an array that is thrown away, since 9 and 10 come before 2 to 5 and 18.
 fn judge(head: Header, readings: &[u16], words: &[u16]) -> Reading
     requires { ⌜ head .width * head .height ≤ maxPlate ⌝ }
     ensures { λ r. ⌜ r ≡ judgedTold head (prepared (withLists head (now (readings .entry)) (now (words .entry)))) ⌝ }

@@ -2,13 +2,13 @@
 ghost use mathlib.Core.Path.{_≡_};
 ghost use lib.ListN.{length, drop};
 ghost use Rattle.basics.specs.Lists.{firstOf};
-ghost use Rattle.survey_text.specs.Bytes.{newline};
-ghost use Rattle.survey_text.specs.Format.{is, after, named, number, list, nothing};
-ghost use Rattle.survey_text.specs.Reading.{next};
+ghost use Rattle.survey_text.specs.Format.{is, after, named, number, list};
+ghost use Rattle.survey_text.specs.Reading.{next, editionLine};
 ghost use Rattle.survey_text.specs.Within.{whether, valueRead, Inside};
 ghost use Rattle.survey_text.specs.Cursors.{Counted, Step};
 use crate::cursor::Cursor;
 use crate::number::Number;
+use crate::number::edition_in;
 use crate::number::list_in;
 use crate::number::number_in;
 use plate::refusal;
@@ -109,25 +109,35 @@ pub(crate) fn number_line(s: &[u8], name: &[u8], c: Cursor) -> NumberLine
     }
 }
 
-// The line at the cursor: its name and nothing more.
-pub(crate) fn bare_line(s: &[u8], name: &[u8], c: Cursor) -> Cursor
+// The line at the cursor: `plate=`, then the edition of the format.
+pub(crate) fn edition_line(s: &[u8], c: Cursor) -> NumberLine
     requires { ⌜ Counted c ⌝ }
-    ensures { λ r. ⌜ Step (now (s .entry)) c (next (now (name .entry)) nothing) tt r ⌝ }
+    ensures { λ r. ⌜ Step (now (s .entry)) c editionLine (r .value) (r .next) ⌝ }
 {
     if c.refused > 0 {
-        return c;
+        return NumberLine { value: 0, next: c };
     }
-    let found = value_at(s, name, c.from);
+    let found = value_at(s, b"plate=", c.from);
     let Value::Between { from, end } = found else {
-        return c.refuse(refusal::LINE);
+        return NumberLine {
+            value: 0,
+            next: c.refuse(refusal::LINE),
+        };
     };
-    if from < end {
-        return c.refuse(refusal::LINE);
-    }
-    Cursor {
-        from: end + 1,
-        line: c.line + 1,
-        refused: 0,
+    let got = edition_in(&s[from..end]);
+    let Number::Is(value) = got else {
+        return NumberLine {
+            value: 0,
+            next: c.refuse(refusal::LINE),
+        };
+    };
+    NumberLine {
+        value: value,
+        next: Cursor {
+            from: end + 1,
+            line: c.line + 1,
+            refused: 0,
+        },
     }
 }
 

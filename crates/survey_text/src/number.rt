@@ -1,7 +1,7 @@
-// Numbers, and lists of numbers parted by commas.
+// Numbers, editions, and lists of numbers parted by commas.
 ghost use mathlib.Core.Path.{_≡_};
 ghost use lib.ListN.{length};
-ghost use Rattle.survey_text.specs.Format.{isDigit, number, list};
+ghost use Rattle.survey_text.specs.Format.{isDigit, number, edition, list};
 ghost use Rattle.survey_text.specs.Within.{numberRead, whether};
 use crate::line::find;
 
@@ -49,6 +49,22 @@ pub(crate) fn number_in(s: &[u8]) -> Number
         return Number::Bad;
     }
     Number::Is(v)
+}
+
+// The edition of the format that these bytes are: a single 1 or 2.
+pub(crate) fn edition_in(s: &[u8]) -> Number
+    ensures { λ r. ⌜ numberRead r ≡ edition (now (s .entry)) ⌝ }
+{
+    if s.len() != 1 {
+        return Number::Bad;
+    }
+    if s[0] == b'1' {
+        return Number::Is(1);
+    }
+    if s[0] == b'2' {
+        return Number::Is(2);
+    }
+    Number::Bad
 }
 
 // Fills out with the numbers that these bytes list, if they are as many as it has places for.

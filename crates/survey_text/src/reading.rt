@@ -1,14 +1,16 @@
 // Reading a plate's text. The order of judgement is document 01's (section 6): the text's length, the
-// lines up to `height=`, refusals 1 and 14 on the size, then the other lines.
+// lines up to `height=`, refusals 1 and 14 on the size, then the other lines. The first line names the
+// edition (document 02, N5); edition 2 has one line more, `ends=`.
 ghost use mathlib.Core.Path.{_≡_};
 ghost use mathlib.Core.List.{List};
 ghost use Prim.Native.Nat.{ℕ, _*_, _≤_};
 ghost use lib.ListN.{length};
-ghost use Rattle.survey_text.specs.Reading.{maxPlate, opening, sizeJudged, sizeLines, settingLines, rowLines, atEnd, plateLines, reading};
+ghost use Rattle.survey_text.specs.Reading.{maxPlate, opening, sizeJudged, sizeLines, endsLine, settingLines, rowLines, atEnd, plateLines, reading};
 ghost use Rattle.survey_text.specs.Within.{readingTold};
 ghost use Rattle.survey_text.specs.Cursors.{Counted, Step, Last, stands};
 use crate::cursor::Cursor;
-use crate::line::bare_line;
+use crate::line::NumberLine;
+use crate::line::edition_line;
 use crate::line::list_line;
 use crate::line::number_line;
 use plate::Setting;
@@ -18,6 +20,9 @@ use plate::refusal;
 const MAX_BYTES: usize = 16384;
 
 pub const MAX_PLATE: usize = 512;
+
+// The first edition of the format with a line `ends=`.
+const WITH_ENDS: usize = 2;
 
 // A plate's size; 0 by 0 where the cursor carries a refusal.
 pub(crate) struct SizeLines {
@@ -108,26 +113,38 @@ fn judge_size(width: usize, height: usize, c: Cursor) -> SizeLines
     }
 }
 
-// The lines up to `height=`, and what becomes of the size.
+// The lines `width=` and `height=`, and what becomes of the size.
 fn size_lines(s: &[u8], c: Cursor) -> SizeLines
     requires { ⌜ Counted c ⌝ }
     ensures { λ r. ⌜ r .width * r .height ≤ maxPlate ⌝ }
     ensures { λ r. ⌜ Step (now (s .entry)) c sizeLines (r .width, r .height) (r .next) ⌝ }
 {
-    let plate = bare_line(s, b"plate=1", c);
-    let width = number_line(s, b"width=", plate);
+    let width = number_line(s, b"width=", c);
     let height = number_line(s, b"height=", width.next);
     judge_size(width.value, height.value, height.next)
 }
 
-// The lines from `length=` to `at=`. Each step goes on where the last one stopped.
-fn setting_lines(s: &[u8], c: Cursor) -> SettingLines
+// The line `ends=`. Where the edition has none, nothing is read and 0 is meant; an `ends=` that stands there
+// all the same is refused by the next step, which wants `ways=`.
+fn ends_line(s: &[u8], edition: usize, c: Cursor) -> NumberLine
     requires { ⌜ Counted c ⌝ }
-    ensures { λ r. ⌜ Step (now (s .entry)) c settingLines (r .setting, r .at) (r .next) ⌝ }
+    ensures { λ r. ⌜ Step (now (s .entry)) c (endsLine edition) (r .value) (r .next) ⌝ }
+{
+    if edition < WITH_ENDS {
+        return NumberLine { value: 0, next: c };
+    }
+    number_line(s, b"ends=", c)
+}
+
+// The lines from `length=` to `at=`. Each step goes on where the last one stopped.
+fn setting_lines(s: &[u8], edition: usize, c: Cursor) -> SettingLines
+    requires { ⌜ Counted c ⌝ }
+    ensures { λ r. ⌜ Step (now (s .entry)) c (settingLines edition) (r .setting, r .at) (r .next) ⌝ }
 {
     let length = number_line(s, b"length=", c);
     let gaps = number_line(s, b"gaps=", length.next);
-    let ways = number_line(s, b"ways=", gaps.next);
+    let ends = ends_line(s, edition, gaps.next);
+    let ways = number_line(s, b"ways=", ends.next);
     let mode = number_line(s, b"mode=", ways.next);
     let at = number_line(s, b"at=", mode.next);
     let next = at.next;
@@ -137,6 +154,7 @@ fn setting_lines(s: &[u8], c: Cursor) -> SettingLines
             gaps: gaps.value,
             directions: ways.value,
             mode: mode.value,
+            ends: ends.value,
         },
         at: at.value,
         next: next,
@@ -208,8 +226,9 @@ pub(crate) fn read(s: &[u8], readings: &mut [u16], words: &mut [u16]) -> Reading
     ensures { λ r. ⌜ readingTold (now (readings .exit)) (now (words .exit)) r ≡ reading (now (s .entry)) ⌝ }
 {
     let start = open(s);
-    let size = size_lines(s, start);
-    let given = setting_lines(s, size.next);
+    let edition = edition_line(s, start);
+    let size = size_lines(s, edition.next);
+    let given = setting_lines(s, edition.value, size.next);
     let n = size.width * size.height;
     let last = plate_lines(
         s,

@@ -17,7 +17,6 @@ use Rattle.states.specs.States.{Grown, Holds, LastHolds, Advanced}
 use Rattle.sweeps.specs.Stacks.{KeysAre, Sequence, Stacked, RunOn, Pushed, Fetched, lastMark}
 use Rattle.plans.specs.declared.plan.Plan.{Plan}
 use Rattle.sweeps.specs.declared.stack.Stack.{Stack}
-use Rattle.theory.specs.BestWalks.{alone}
 use Rattle.plans.proofs.PlanSizes.{rows-few}
 use Rattle.states.proofs.SizeLaws.{row-small}
 use Rattle.states.proofs.StateLaws.{grown-keys}

@@ -36,6 +36,7 @@ recounted p reach origin =
       linked = p .linked;
       lone = p .lone;
       pixel = p .pixel;
+      slack = p .slack;
       reach = reach;
     }
 

@@ -3,14 +3,12 @@
 ghost use mathlib.Core.Path.{_≡_};
 ghost use mathlib.Core.Bool.{true};
 ghost use Prim.Native.Nat.{_+_, _-_, _*_, _≤_, _<_};
-ghost use lib.Dec.{leb};
 ghost use lib.ListN.{length};
 ghost use Rattle.basics.specs.Cases.{either};
-ghost use Rattle.plans.specs.Plans.{keysSize, stateSize};
 ghost use Rattle.plans.specs.Forms.{wellFormed};
 ghost use Rattle.sweeps.specs.Stacks.{Fetched};
 ghost use Rattle.sweeps.specs.Sweeps.{Swept};
-ghost use Rattle.sweeps.specs.Doors.{statesOf, otherEnd, roomFor, sweepable, stackFits, fetches, hasTop, topOf};
+ghost use Rattle.sweeps.specs.Doors.{statesOf, otherEnd, roomFor, sweepable, stackFits, fetches, topOf};
 use crate::stack;
 use crate::stack::Stack;
 use crate::sweeping::sweep_held;
@@ -64,6 +62,7 @@ fn other_end(plan: Plan, reach: Reach) -> Plan
         linked: plan.linked,
         lone: plan.lone,
         pixel: plan.pixel,
+        slack: plan.slack,
         reach: reach,
     }
 }

@@ -1,17 +1,20 @@
--- The laws of `admits`: which paths count at a level. A path with no more pixels below than an admitted one is admitted, and the rest follows.
--- Request N5 changes the text of `admits`. It is opened by `admitted-few` and `few-admitted` alone (the worked plates aside, which are computed), and
--- outside this file these two are cited, and `below` opened, only where Decomposition.antt counts pixels by keys.
+-- The laws of `admits`: which paths count at a level. A path with no pixel below that is not below on an admitted one is admitted, and the rest
+-- follows, for both values of `ends`. The text of `admits` is opened by `admitted-few`, `admitted-ends` and `few-admitted` alone (the worked plates
+-- aside, which are computed).
 use Prim.Native.Nat.{ℕ, _+_, _≤_, _<_}
-use mathlib.Core.Path.{_≡_, refl}
-use mathlib.Core.Bool.{false}
+use mathlib.Core.Path.{_≡_, refl, _∙_}
+use mathlib.Core.Bool.{Bool, false, not, _||_}
+use mathlib.Core.Logic.{⊎-elim}
 use mathlib.Core.List.{List, [], _∷_, _++_, List·Memᴰ, List·Memᴰ·head, List·Memᴰ·tail}
 use native.Mathlib.Omega.{arith}
-use lib.Dec.{T, leb→le, le→leb}
+use lib.Dec.{T, leb, eqb, leb→le, le→leb}
+use borrow.Author.Tests.{eqb-true, eq-eqb}
 use lib.IntN.{ℤ}
 use lib.Signed.{mag, ltZ, _≤ℤ_, _<ℤ_, ltZ-yes, <ℤ-≤ℤ-trans, clashℤ}
 use Rattle.basics.proofs.Order.{≤ℤ-<ℤ-trans}
-use Rattle.basics.proofs.Tests.{count-le, same-test}
+use Rattle.basics.proofs.Tests.{true-or-false, T-true, true-T, and-both, both-and, or-right, count-le, same-test}
 use Rattle.plate.specs.Levels.{lowest}
+use Rattle.plate.specs.Paths.{lastAfter, endsOf}
 use Rattle.plate.specs.Opening.{levelAt, below, admits}
 use Rattle.plate.specs.declared.setting.Setting.{Setting}
 use Rattle.plate.proofs.Keys.{lowest-le}
@@ -44,16 +47,41 @@ unfolding below
 below-append f t [] qs = omega arith
 below-append f t (p ∷ ps) qs = omega (arith, below-append f t ps qs)
 
+-- ---- the end pixels
+
+last-on-path : (p : ℕ) (path : List ℕ) → List·Memᴰ (lastAfter p path) (p ∷ path)
+unfolding lastAfter
+last-on-path p [] = List·Memᴰ·head refl
+last-on-path p (q ∷ path) = List·Memᴰ·tail (last-on-path q path)
+
+pub ends-on-path : (path : List ℕ) (p : ℕ) → List·Memᴰ p (endsOf path) → List·Memᴰ p path
+unfolding endsOf
+ends-on-path (q ∷ path) p (List·Memᴰ·head e) = List·Memᴰ·head e
+ends-on-path (q ∷ path) p (List·Memᴰ·tail (List·Memᴰ·head e)) = rw e (last-on-path q path)
+
+-- a test that is asked with `ends` 1 alone
+asked : (ends : ℕ) (test : Bool) → (ends ≡ 1 → T test) → T (not (eqb ends 1) || test)
+asked ends test h =
+    ⊎-elim (λ e. or-right (not (eqb ends 1)) test (h (eqb-true ends 1 e))) (λ e. rw e tt) (true-or-false (eqb ends 1))
+
 module _ (s : Setting) where
-  -- ---- the two that open the definition
+  -- ---- the three that open the definition
 
   pub admitted-few : (f : List ℤ) (t : ℤ) (path : List ℕ) → T (admits s f t path) → below f t path ≤ s .gaps
   unfolding admits
-  admitted-few f t path a = leb→le (below f t path) (s .gaps) a
+  admitted-few f t path a = leb→le (below f t path) (s .gaps) (and-both (leb (below f t path) (s .gaps)) _ a .0)
 
-  pub few-admitted : (f : List ℤ) (t : ℤ) (path : List ℕ) → below f t path ≤ s .gaps → T (admits s f t path)
+  pub admitted-ends : (f : List ℤ) (t : ℤ) (path : List ℕ) → T (admits s f t path) → s .ends ≡ 1 → below f t (endsOf path) ≡ 0
   unfolding admits
-  few-admitted f t path h = le→leb (below f t path) (s .gaps) h
+  admitted-ends f t path a e =
+      eqb-true (below f t (endsOf path)) 0 (T-true _ (rw e at (and-both (leb (below f t path) (s .gaps)) _ a .1)))
+
+  pub few-admitted :
+      (f : List ℤ) (t : ℤ) (path : List ℕ) → below f t path ≤ s .gaps → (s .ends ≡ 1 → below f t (endsOf path) ≡ 0) → T (admits s f t path)
+  unfolding admits
+  few-admitted f t path h e =
+      both-and (leb (below f t path) (s .gaps)) _ (le→leb (below f t path) (s .gaps) h)
+      (asked (s .ends) (eqb (below f t (endsOf path)) 0) (λ one. true-T _ (eq-eqb (below f t (endsOf path)) 0 (e one))))
 
   -- ---- what the count gives
 
@@ -63,17 +91,20 @@ module _ (s : Setting) where
       T (admits s f t path) → T (admits s g u path)
   admitted-fewer f g t u path h a =
       few-admitted g u path (omega (arith, below-fewer f g t u path h, admitted-few f t path a))
+      (λ one. omega (arith, below-fewer f g t u (endsOf path) (λ p i. h p (ends-on-path path p i)), admitted-ends f t path a one))
 
   -- a path with no pixel below t is admitted at t
   pub admitted-clear : (f : List ℤ) (t : ℤ) (path : List ℕ) → ((p : ℕ) → List·Memᴰ p path → t ≤ℤ levelAt f p) → T (admits s f t path)
-  admitted-clear f t path h = few-admitted f t path (omega (arith, below-none f t path h))
+  admitted-clear f t path h =
+      few-admitted f t path (omega (arith, below-none f t path h)) (λ one. below-none f t (endsOf path) (λ p i. h p (ends-on-path path p i)))
 
-  -- a part of an admitted path is admitted
+  -- a part of an admitted path is admitted, where its ends may be gaps
   pub admitted-part :
-      (f : List ℤ) (t : ℤ) {ps : List ℕ} (before part after : List ℕ) → ps ≡ before ++ (part ++ after) → T (admits s f t ps) → T (admits s f t part)
-  admitted-part f t {ps} before part after whole a =
+      s .ends ≡ 0 → (f : List ℤ) (t : ℤ) {ps : List ℕ} (before part after : List ℕ) → ps ≡ before ++ (part ++ after) →
+      T (admits s f t ps) → T (admits s f t part)
+  admitted-part free f t {ps} before part after whole a =
       let n : below f t (before ++ (part ++ after)) ≤ s .gaps = admitted-few f t _ (rw whole at a) in
-      few-admitted f t part (omega (arith, below-append f t before (part ++ after), below-append f t part after))
+      few-admitted f t part (omega (arith, below-append f t before (part ++ after), below-append f t part after)) (λ one. absurd (omega arith))
 
   -- ---- what follows
 
@@ -97,7 +128,8 @@ module _ (s : Setting) where
   pub admitted-lowest : (f : List ℤ) (path : List ℕ) → ((p : ℕ) → mag (levelAt f p) < 32768) → T (admits s f lowest path)
   admitted-lowest f path size = admitted-clear f lowest path (λ p i. lowest-le (levelAt f p) (size p))
 
--- of the setting only the gaps count, not the length or the directions
+-- of the setting only the gaps and `ends` count, not the length or the directions
 pub admitted-by-gaps :
-    (s s′ : Setting) (f : List ℤ) (t : ℤ) (path : List ℕ) → s .gaps ≡ s′ .gaps → T (admits s f t path) → T (admits s′ f t path)
-admitted-by-gaps s s′ f t path e a = few-admitted s′ f t path (omega (arith, admitted-few s f t path a))
+    (s s′ : Setting) (f : List ℤ) (t : ℤ) (path : List ℕ) → s .gaps ≡ s′ .gaps → s .ends ≡ s′ .ends → T (admits s f t path) → T (admits s′ f t path)
+admitted-by-gaps s s′ f t path e d a =
+    few-admitted s′ f t path (omega (arith, admitted-few s f t path a)) (λ one. admitted-ends s f t path a (d ∙ one))

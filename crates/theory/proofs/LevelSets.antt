@@ -1,24 +1,25 @@
 -- Walks by level sets: the recursion that the engine computes, formula (3) of source 001 taken on keys, finds just the walks that are there.
 -- 'Some walk counts at t' is one number a pixel, `bestWalk`, since a walk that counts at a key counts at every lower one; 0 also stands for 'no walk'.
 -- Over any function `next`, forwards or backwards, and any keys of 16 bits. At the end stands what a program that computes it uses.
-use Prim.Native.Nat.{ℕ, zero, suc, _+_, _≤_, _<_, min, max}
+use Prim.Native.Nat.{ℕ, zero, suc, _≤_, _<_, min, max}
 use mathlib.Core.Path.{_≡_, refl}
-use mathlib.Core.Bool.{cond}
 use mathlib.Core.List.{List, [], _∷_, List·Memᴰ, List·Memᴰ·head, List·Memᴰ·tail}
 use mathlib.Core.Logic.{⊎-elim}
 use native.Mathlib.Omega.{arith}
-use lib.Dec.{ltb}
 use borrow.Author.Tests.{lt-ltb, le-ltb}
-use Rattle.theory.specs.Walks.{Walk, Walk.stop, Walk.go}
-use Rattle.theory.specs.BestWalks.{best, under, lowPixels, fewer, alone, bestWalk}
+use Rattle.theory.specs.Walks.{Walk, Walk.stop, Walk.go, lastOf}
+use Rattle.theory.specs.BestWalks.{best, under, lowPixels, fewer, ended, alone, bestWalk}
 use Rattle.basics.proofs.Numbers.{le-or-lt, le-max-split, known-below}
+use Rattle.plate.specs.Paths.{lastAfter}
+use Rattle.theory.proofs.Walks.{last-on}
 use Rattle.theory.proofs.Maxima.{best-find, best-keep, best-least, best-mono, best-same}
 
--- some walk of m steps from p has at most j pixels below t
-pub record Good (next : ℕ → List ℕ) (g : ℕ → ℕ) (t m j p : ℕ) : Type 0 where
+-- some walk of m steps from p has at most j pixels below t, and may end where it does
+pub record Good (slack : ℕ) (next : ℕ → List ℕ) (g : ℕ → ℕ) (t m j p : ℕ) : Type 0 where
   pub pixels : List ℕ
   pub walk : Walk next m p pixels
   pub few : lowPixels g t pixels ≤ j
+  pub ends : t ≤ ended slack (g (lastOf pixels))
 
 -- ---- laws of the parts
 
@@ -47,109 +48,112 @@ fewer-find g t (suc j) positive h = (j, refl, h)
 
 -- ---- the two lemmas
 
--- For 1 ≤ t ≤ 65535: t ≤ reach m j p exactly when some walk of m steps from p has at most j pixels below t. By induction on m. A walk of no step
--- is the pixel p alone: it has no pixel below t just when t ≤ g p, and at most one always. A walk of m + 1 steps is p and a walk of m steps from
+-- For 1 ≤ t: t ≤ reach m j p exactly when some walk of m steps from p has at most j pixels below t and may end where it does. By induction on m. A
+-- walk of no step is the pixel p alone: it has no pixel below t just when t ≤ g p, and at most one always; then t ≤ slack is asked of it as an end. A walk of m + 1 steps is p and a walk of m steps from
 -- some q of `next p`. If t ≤ g p, the rest has at most j pixels below t: t is at most both g p and the best reach of m steps with j gaps. If not,
 -- p is a gap and the rest has at most j − 1: t is at most the best reach with one gap fewer. Conversely each of the two bounds gives a q and its
 -- walk, and p is put before it: with its key at least t in the first case, and with whatever key in the second.
-module _ (next : ℕ → List ℕ) (g : ℕ → ℕ) (t : ℕ) where
-  before-high : {m j p q : ℕ} → t ≤ g p → List·Memᴰ q (next p) → Good next g t m j q → Good next g t (suc m) j p
+module _ (slack : ℕ) (next : ℕ → List ℕ) (g : ℕ → ℕ) (t : ℕ) where
+  before-high : {m j p q : ℕ} → t ≤ g p → List·Memᴰ q (next p) → Good slack next g t m j q → Good slack next g t (suc m) j p
   unfolding lowPixels
-  before-high {p = p} h e w = record { pixels = p ∷ w .pixels; walk = go e (w .walk); few = omega (arith, under-high t (g p) h) }
+  before-high {p = p} h e w = record { pixels = p ∷ w .pixels; walk = go e (w .walk); few = omega (arith, under-high t (g p) h); ends = rw (last-on p (w .walk)) (w .ends) }
 
-  before-any : {m i j p q : ℕ} → j ≡ suc i → List·Memᴰ q (next p) → Good next g t m i q → Good next g t (suc m) j p
+  before-any : {m i j p q : ℕ} → j ≡ suc i → List·Memᴰ q (next p) → Good slack next g t m i q → Good slack next g t (suc m) j p
   unfolding lowPixels
-  before-any {p = p} s e w = record { pixels = p ∷ w .pixels; walk = go e (w .walk); few = omega (arith, under-le-one t (g p)) }
+  before-any {p = p} s e w = record { pixels = p ∷ w .pixels; walk = go e (w .walk); few = omega (arith, under-le-one t (g p)); ends = rw (last-on p (w .walk)) (w .ends) }
 
-  pub reach-good : 1 ≤ t → (m j p : ℕ) → t ≤ bestWalk next g m j p → Good next g t m j p
-  unfolding bestWalk lowPixels alone
-  reach-good positive zero zero p h = record { pixels = p ∷ []; walk = stop; few = omega (arith, under-high t (g p) h) }
-  reach-good positive zero (suc j) p h = record { pixels = p ∷ []; walk = stop; few = omega (arith, under-le-one t (g p)) }
+  pub reach-good : 1 ≤ t → (m j p : ℕ) → t ≤ bestWalk slack next g m j p → Good slack next g t m j p
+  unfolding bestWalk lowPixels alone lastOf lastAfter
+  reach-good positive zero zero p h = record { pixels = p ∷ []; walk = stop; few = omega (arith, under-high t (g p) h); ends = omega arith }
+  reach-good positive zero (suc j) p h = record { pixels = p ∷ []; walk = stop; few = omega (arith, under-le-one t (g p)); ends = h }
   reach-good positive (suc m) j p h =
       ⊎-elim
-      (λ a. let r = best-find (bestWalk next g m j) t (next p) positive (omega arith) in
+      (λ a. let r = best-find (bestWalk slack next g m j) t (next p) positive (omega arith) in
       before-high (omega arith) (r .1) (reach-good positive m j (r .0) (r .2)))
-      (λ b. let s = fewer-find (λ i. best (bestWalk next g m i) (next p)) t j positive b in
-      let r = best-find (bestWalk next g m (s .0)) t (next p) positive (s .2) in
+      (λ b. let s = fewer-find (λ i. best (bestWalk slack next g m i) (next p)) t j positive b in
+      let r = best-find (bestWalk slack next g m (s .0)) t (next p) positive (s .2) in
       before-any (s .1) (r .1) (reach-good positive m (s .0) (r .0) (r .2)))
       (le-max-split t _ _ h)
 
-  walk-reach : t ≤ 65535 → {m p : ℕ} {ps : List ℕ} → Walk next m p ps → (j : ℕ) → lowPixels g t ps ≤ j → t ≤ bestWalk next g m j p
-  unfolding bestWalk lowPixels alone fewer
-  walk-reach small (stop {p}) zero h =
+  walk-reach :
+      {m p : ℕ} {ps : List ℕ} → Walk next m p ps → t ≤ ended slack (g (lastOf ps)) → (j : ℕ) → lowPixels g t ps ≤ j → t ≤ bestWalk slack next g m j p
+  unfolding bestWalk lowPixels alone fewer lastOf lastAfter
+  walk-reach (stop {p}) e zero h =
       ⊎-elim (λ a. a) (λ b. absurd (omega (arith, under-low t (g p) b))) (le-or-lt t (g p))
-  walk-reach small stop (suc j) h = small
-  walk-reach small (go {m} {p} {q} {ps} e w) zero h =
+  walk-reach stop e (suc j) h = e
+  walk-reach (go {m} {p} {q} {ps} i w) e zero h =
+      let f : t ≤ ended slack (g (lastOf ps)) = rw (last-on p w) at e in
       ⊎-elim
-      (λ a. omega (arith, best-keep (bestWalk next g m zero) t q e (walk-reach small w zero (omega (arith, under-high t (g p) a)))))
+      (λ a. omega (arith, best-keep (bestWalk slack next g m zero) t q i (walk-reach w f zero (omega (arith, under-high t (g p) a)))))
       (λ b. absurd (omega (arith, under-low t (g p) b)))
       (le-or-lt t (g p))
-  walk-reach small (go {m} {p} {q} {ps} e w) (suc j) h =
+  walk-reach (go {m} {p} {q} {ps} i w) e (suc j) h =
+      let f : t ≤ ended slack (g (lastOf ps)) = rw (last-on p w) at e in
       ⊎-elim
-      (λ a. omega (arith, best-keep (bestWalk next g m (suc j)) t q e (walk-reach small w (suc j) (omega (arith, under-high t (g p) a)))))
-      (λ b. omega (arith, best-keep (bestWalk next g m j) t q e (walk-reach small w j (omega (arith, under-low t (g p) b)))))
+      (λ a. omega (arith, best-keep (bestWalk slack next g m (suc j)) t q i (walk-reach w f (suc j) (omega (arith, under-high t (g p) a)))))
+      (λ b. omega (arith, best-keep (bestWalk slack next g m j) t q i (walk-reach w f j (omega (arith, under-low t (g p) b)))))
       (le-or-lt t (g p))
 
-  pub good-reach : t ≤ 65535 → (m j p : ℕ) → Good next g t m j p → t ≤ bestWalk next g m j p
-  good-reach small m j p w = walk-reach small (w .walk) j (w .few)
+  pub good-reach : (m j p : ℕ) → Good slack next g t m j p → t ≤ bestWalk slack next g m j p
+  good-reach m j p w = walk-reach (w .walk) (w .ends) j (w .few)
 
 -- ---- for a program that computes it: the recursion step by step, and what need not be visited
 
-module _ (next : ℕ → List ℕ) (g : ℕ → ℕ) where
-  pub reach-start : (p : ℕ) → bestWalk next g 0 0 p ≡ g p
+module _ (slack : ℕ) (next : ℕ → List ℕ) (g : ℕ → ℕ) where
+  pub reach-start : (p : ℕ) → bestWalk slack next g 0 0 p ≡ g p
   unfolding bestWalk alone
   reach-start p = refl
 
-  pub reach-start-gap : (j p : ℕ) → bestWalk next g 0 (suc j) p ≡ 65535
+  pub reach-start-gap : (j p : ℕ) → bestWalk slack next g 0 (suc j) p ≡ ended slack (g p)
   unfolding bestWalk alone
   reach-start-gap j p = refl
 
   pub reach-step : (m j p : ℕ) →
-      bestWalk next g (suc m) j p ≡ max (min (g p) (best (bestWalk next g m j) (next p))) (fewer (λ i. best (bestWalk next g m i) (next p)) j)
+      bestWalk slack next g (suc m) j p ≡ max (min (g p) (best (bestWalk slack next g m j) (next p))) (fewer (λ i. best (bestWalk slack next g m i) (next p)) j)
   unfolding bestWalk
   reach-step m j p = refl
 
   -- where no walk of m steps starts it is 0, whatever the gaps
-  pub reach-none : (m j p : ℕ) → ((ps : List ℕ) → Walk next m p ps → ⊥) → bestWalk next g m j p ≡ 0
-  reach-none m j p none = known-below (bestWalk next g m j p) 0
-      (λ t positive h. let w = reach-good next g t positive m j p h in absurd (none (w .pixels) (w .walk)))
+  pub reach-none : (m j p : ℕ) → ((ps : List ℕ) → Walk next m p ps → ⊥) → bestWalk slack next g m j p ≡ 0
+  reach-none m j p none = known-below (bestWalk slack next g m j p) 0
+      (λ t positive h. let w = reach-good slack next g t positive m j p h in absurd (none (w .pixels) (w .walk)))
       (λ t positive h. omega arith)
 
-  module _ (bounded : (p : ℕ) → g p ≤ 65535) where
-    pub reach-bound : (m j p : ℕ) → bestWalk next g m j p ≤ 65535
-    unfolding bestWalk alone fewer
-    reach-bound zero zero p = bounded p
-    reach-bound zero (suc j) p = omega arith
-    reach-bound (suc m) zero p = omega (arith, bounded p)
-    reach-bound (suc m) (suc j) p =
-        omega (arith, bounded p, best-least (bestWalk next g m j) 65535 (next p) (λ q i. reach-bound m j q))
+  pub reach-bound : ((p : ℕ) → g p ≤ 65535) → slack ≤ 65535 → (m j p : ℕ) → bestWalk slack next g m j p ≤ 65535
+  unfolding bestWalk alone fewer
+  reach-bound bounded small zero zero p = bounded p
+  reach-bound bounded small zero (suc j) p = omega (arith, bounded p)
+  reach-bound bounded small (suc m) zero p = omega (arith, bounded p)
+  reach-bound bounded small (suc m) (suc j) p =
+      omega (arith, bounded p, best-least (bestWalk slack next g m j) 65535 (next p) (λ q i. reach-bound bounded small m j q))
 
-    -- one more gap never lowers it
-    pub reach-more-gaps : (m j p : ℕ) → bestWalk next g m j p ≤ bestWalk next g m (suc j) p
-    unfolding bestWalk alone fewer
-    reach-more-gaps zero zero p = bounded p
-    reach-more-gaps zero (suc j) p = omega arith
-    reach-more-gaps (suc m) zero p = omega (arith, best-mono (bestWalk next g m 0) (bestWalk next g m 1) (reach-more-gaps m 0) (next p))
-    reach-more-gaps (suc m) (suc j) p =
-        omega (
-          arith,
-          best-mono (bestWalk next g m j) (bestWalk next g m (suc j)) (reach-more-gaps m j) (next p),
-          best-mono (bestWalk next g m (suc j)) (bestWalk next g m (suc (suc j))) (reach-more-gaps m (suc j)) (next p),
-        )
+  -- one more gap never lowers it
+  pub reach-more-gaps : (m j p : ℕ) → bestWalk slack next g m j p ≤ bestWalk slack next g m (suc j) p
+  unfolding bestWalk alone fewer
+  reach-more-gaps zero zero p = omega arith
+  reach-more-gaps zero (suc j) p = omega arith
+  reach-more-gaps (suc m) zero p =
+      omega (arith, best-mono (bestWalk slack next g m 0) (bestWalk slack next g m 1) (reach-more-gaps m 0) (next p))
+  reach-more-gaps (suc m) (suc j) p =
+      omega (
+        arith,
+        best-mono (bestWalk slack next g m j) (bestWalk slack next g m (suc j)) (reach-more-gaps m j) (next p),
+        best-mono (bestWalk slack next g m (suc j)) (bestWalk slack next g m (suc (suc j))) (reach-more-gaps m (suc j)) (next p),
+      )
 
 -- reach is known by the keys of the places below n, where no step leads elsewhere
-module _ (next : ℕ → List ℕ) (g h : ℕ → ℕ) (n : ℕ)
+module _ (slack : ℕ) (next : ℕ → List ℕ) (g h : ℕ → ℕ) (n : ℕ)
     (stays : (p q : ℕ) → List·Memᴰ q (next p) → q < n) (same : (p : ℕ) → p < n → g p ≡ h p) where
-  pub reach-same : (m j p : ℕ) → p < n → bestWalk next g m j p ≡ bestWalk next h m j p
+  pub reach-same : (m j p : ℕ) → p < n → bestWalk slack next g m j p ≡ bestWalk slack next h m j p
   unfolding bestWalk alone fewer
   reach-same zero zero p l = same p l
-  reach-same zero (suc j) p l = refl
+  reach-same zero (suc j) p l = omega (arith, same p l)
   reach-same (suc m) zero p l =
-      omega (arith, same p l, best-same (bestWalk next g m 0) (bestWalk next h m 0) (next p) (λ q i. reach-same m 0 q (stays p q i)))
+      omega (arith, same p l, best-same (bestWalk slack next g m 0) (bestWalk slack next h m 0) (next p) (λ q i. reach-same m 0 q (stays p q i)))
   reach-same (suc m) (suc j) p l =
       omega (
         arith,
         same p l,
-        best-same (bestWalk next g m j) (bestWalk next h m j) (next p) (λ q i. reach-same m j q (stays p q i)),
-        best-same (bestWalk next g m (suc j)) (bestWalk next h m (suc j)) (next p) (λ q i. reach-same m (suc j) q (stays p q i)),
+        best-same (bestWalk slack next g m j) (bestWalk slack next h m j) (next p) (λ q i. reach-same m j q (stays p q i)),
+        best-same (bestWalk slack next g m (suc j)) (bestWalk slack next h m (suc j)) (next p) (λ q i. reach-same m (suc j) q (stays p q i)),
       )

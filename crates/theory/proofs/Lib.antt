@@ -25,10 +25,9 @@ pub mod Splitting
 pub mod Decomposition
 pub mod Terms
 -- the trace
-pub mod Following
 pub mod Recorded
 pub mod Trace
-pub mod Ends
+pub mod WalksTo
 pub mod Towards
 -- the worked plates
 pub mod WorkedPlates

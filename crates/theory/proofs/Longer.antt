@@ -1,5 +1,6 @@
--- A longer length keeps no more: for equal k, directions and mode, no pixel has a better level by a longer length. A path of L pixels that counts
--- contains, through any of its pixels, one of K pixels, and a part of a path has no more pixels below a level than the whole.
+-- A longer length keeps no more: for equal k, directions and mode, and with `ends` 0, no pixel has a better level by a longer length. A path of L
+-- pixels that counts contains, through any of its pixels, one of K pixels, and a part of a path has no more pixels below a level than the whole. With
+-- `ends` 1 this is false: the part may end on a gap of the whole.
 use Prim.Native.Nat.{ℕ, _*_, _≤_, _<_}
 use mathlib.Core.Path.{_≡_, refl}
 use mathlib.Core.List.{List, map}
@@ -24,17 +25,17 @@ turned-by :
 unfolding asMode
 turned-by s W H N f x on = turned-filtered (withLength s N) W H f x on
 
-module _ (s : Setting) (W H : ℕ) {K L : ℕ} (some : 1 ≤ K) (shorter : K ≤ L) where
+module _ (s : Setting) (free : s .ends ≡ 0) (W H : ℕ) {K L : ℕ} (some : 1 ≤ K) (shorter : K ≤ L) where
   counts-shorter : {f : List ℤ} {x : ℕ} {t : ℤ} → Counts (withLength s L) W H f x t → Counts (withLength s K) W H f x t
   counts-shorter {f} {x} {t} c =
       let d = paths-find W H (s .directions) L (c .path) (c .listed) in
       let r = path-shorter W H (d .0) L K x (c .path) some shorter (d .2) (mem-through x (c .crosses)) in
-      let a = admitted-part (withLength s L) f t (r .before) (r .part) (r .after) (r .whole) (c .admitted) in
+      let a = admitted-part (withLength s L) free f t (r .before) (r .part) (r .after) (r .whole) (c .admitted) in
       record {
         path = r .part;
         listed = paths-keep W H (s .directions) K (d .1) (r .listed);
         crosses = through-mem x (r .part) (r .crosses);
-        admitted = admitted-by-gaps (withLength s L) (withLength s K) f t (r .part) refl a;
+        admitted = admitted-by-gaps (withLength s L) (withLength s K) f t (r .part) refl refl a;
       }
 
   pub opened-longer : (f : List ℤ) → Levels f → (x : ℕ) → openedAt (withLength s L) W H f x ≤ℤ openedAt (withLength s K) W H f x

@@ -23,7 +23,7 @@ same-mode : (s : Setting) (M N : ℕ) → asMode (withLength s M) ≡ asMode (wi
 unfolding asMode
 same-mode s M N = refl
 
-module _ (s : Setting) (W H : ℕ) {K L : ℕ} (some : 1 ≤ K) (shorter : K ≤ L) (f : List ℤ) (l : Levels f) where
+module _ (s : Setting) (free : s .ends ≡ 0) (W H : ℕ) {K L : ℕ} (some : 1 ≤ K) (shorter : K ≤ L) (f : List ℤ) (l : Levels f) where
   abbrev short : Setting
   short = withLength s K
 
@@ -50,7 +50,7 @@ module _ (s : Setting) (W H : ℕ) {K L : ℕ} (some : 1 ≤ K) (shorter : K ≤
       (opened-monotone long W H by-K f levels-K l (λ p i. rw (levelAt-opened short W H f p i) (opened-below-own short W H f l p)) x on)
       (rw (openedAt-again long W H f l x on) at
       (opened-monotone long W H by-L by-K levels-L levels-K
-      (λ p i. rw (levelAt-opened long W H f p i, levelAt-opened short W H f p i) (opened-longer s W H some shorter f l p)) x on)))
+      (λ p i. rw (levelAt-opened long W H f p i, levelAt-opened short W H f p i) (opened-longer s free W H some shorter f l p)) x on)))
 
   opened-longer-first : opened short W H by-L ≡ by-L
   opened-longer-first =
@@ -58,17 +58,17 @@ module _ (s : Setting) (W H : ℕ) {K L : ℕ} (some : 1 ≤ K) (shorter : K ≤
       (λ x on.
       ≤ℤ-antisym (openedAt short W H by-L x) (openedAt long W H f x)
       (rw (levelAt-opened long W H f x on) at (opened-below-own short W H by-L levels-L x))
-      (rw (openedAt-again long W H f l x on) at (opened-longer s W H some shorter by-L levels-L x)))
+      (rw (openedAt-again long W H f l x on) at (opened-longer s free W H some shorter by-L levels-L x)))
 
 module _ (s : Setting) (W H : ℕ) where
   -- ---- both modes
 
-  module _ {K L : ℕ} (some : 1 ≤ K) (shorter : K ≤ L) (f : List ℤ) (l : Levels f) where
+  module _ (free : s .ends ≡ 0) {K L : ℕ} (some : 1 ≤ K) (shorter : K ≤ L) (f : List ℤ) (l : Levels f) where
     longer-last : filteredBy s W H L (filteredBy s W H K f) ≡ filteredBy s W H L f
     longer-last =
         let long = withLength s L in
         filtered-twice long (withLength s K) W H (same-mode s K L) f
-        ∙ ap (map (asMode long)) (opened-longer-last s W H some shorter (map (asMode long) f) (turned-levels long f l))
+        ∙ ap (map (asMode long)) (opened-longer-last s free W H some shorter (map (asMode long) f) (turned-levels long f l))
         ∙ sym (filtered-as-mode long W H f)
 
     longer-first : filteredBy s W H K (filteredBy s W H L f) ≡ filteredBy s W H L f
@@ -76,7 +76,7 @@ module _ (s : Setting) (W H : ℕ) where
         let short = withLength s K in
         let long = withLength s L in
         filtered-twice short long W H (same-mode s L K) f
-        ∙ ap (map (asMode short)) (opened-longer-first s W H some shorter (map (asMode short) f) (turned-levels short f l))
+        ∙ ap (map (asMode short)) (opened-longer-first s free W H some shorter (map (asMode short) f) (turned-levels short f l))
         ∙ ap (λ (turn : ℤ → ℤ). map turn (opened long W H (map turn f))) (same-mode s K L)
         ∙ sym (filtered-as-mode long W H f)
 
@@ -91,7 +91,7 @@ module _ (s : Setting) (W H : ℕ) where
       let some-L : 1 ≤ L = omega arith in
       ⊎-elim
       (λ h.
-      record { K-then-L = longer-last some-K h f l ∙ by-equal f (omega arith); L-then-K = longer-first some-K h f l ∙ by-equal f (omega arith) })
+      record { K-then-L = longer-last (k .free-ends) some-K h f l ∙ by-equal f (omega arith); L-then-K = longer-first (k .free-ends) some-K h f l ∙ by-equal f (omega arith) })
       (λ h. let h′ : L ≤ K = omega arith in
-      record { K-then-L = longer-first some-L h′ f l ∙ by-equal f (omega arith); L-then-K = longer-last some-L h′ f l ∙ by-equal f (omega arith) })
+      record { K-then-L = longer-first (k .free-ends) some-L h′ f l ∙ by-equal f (omega arith); L-then-K = longer-last (k .free-ends) some-L h′ f l ∙ by-equal f (omega arith) })
       (le-or-lt K L)

@@ -13,16 +13,16 @@ use lib.Signed.{mag, ltZ, _≤ℤ_, _<ℤ_, ltZ-yes, ltZ-no, clashℤ}
 use borrow.Author.Tests.{eq-eqb, le-ltb, eqb-true, leb-false, not-false}
 use Rattle.basics.proofs.Order.{lt-le, mag-between}
 use Rattle.plate.specs.Directions.{chosen}
-use Rattle.plate.specs.Paths.{pathsIn, paths, through}
+use Rattle.plate.specs.Paths.{pathsIn, paths, through, endsOf}
 use Rattle.plate.specs.Opening.{levelAt, below, admits, filtered}
 use Rattle.plate.specs.Refusals.{Verdict.accepted, Clear, traceChecks, traceVerdict}
 use Rattle.plate.specs.declared.setting.Setting.{Setting}
 use Rattle.plate.proofs.Keys.{mirror-ltZ}
 use Rattle.plate.proofs.Verdicts.{clear-accepted, accepted-clear}
-use Rattle.theory.specs.Trace.{short, better, Shows}
+use Rattle.theory.specs.Trace.{short, better, Few, Shows}
 use Rattle.theory.specs.Modes.{Levels, asMode}
 use Rattle.theory.proofs.Listed.{through-mem, listed-on, paths-keep}
-use Rattle.theory.proofs.Admission.{admitted-few, few-admitted}
+use Rattle.theory.proofs.Admission.{ends-on-path, admitted-few, admitted-ends, few-admitted}
 use Rattle.theory.proofs.Mirror.{turned-size, as-mode, levelAt-turned, filtered-length, filtered-levels, filtered-highest, filtered-idempotent}
 
 -- ---- counts and orders by the mode are those of the turned plate
@@ -38,6 +38,22 @@ module _ (s : Setting) where
   short-turned f t (p ∷ path) on =
       rw (better-turned t (levelAt f p), levelAt-turned s f p (on p (List·Memᴰ·head refl)), short-turned f t path (λ q i. on q (List·Memᴰ·tail i)))
 
+  -- so a path counts, as demand 3 says it, just where it is admitted on the turned plate
+  module _ (f : List ℤ) (t : ℤ) (path : List ℕ) (on : (p : ℕ) → List·Memᴰ p path → p < length f) where
+    ends-turned : short s f t (endsOf path) ≡ below (map (asMode s) f) (asMode s t) (endsOf path)
+    ends-turned = short-turned f t (endsOf path) (λ p i. on p (ends-on-path path p i))
+
+    few-counts : Few s f t path → T (admits s (map (asMode s) f) (asMode s t) path)
+    few-counts few =
+        few-admitted s (map (asMode s) f) (asMode s t) path (omega (arith, few .pixels, short-turned f t path on)) (λ one. sym ends-turned ∙ few .ends one)
+
+    counts-few : T (admits s (map (asMode s) f) (asMode s t) path) → Few s f t path
+    counts-few counts =
+        record {
+          pixels = omega (arith, short-turned f t path on, admitted-few s (map (asMode s) f) (asMode s t) path counts);
+          ends = λ one. ends-turned ∙ admitted-ends s (map (asMode s) f) (asMode s t) path counts one;
+        }
+
 -- ---- what an accepted trace was checked for, and that the filtered plate passes the same checks
 
 module _ (s : Setting) (W H : ℕ) (f : List ℤ) (x room work : ℕ) (level : ℤ) (accepts : traceVerdict W H s f x room work ≡ accepted level) where
@@ -49,21 +65,21 @@ module _ (s : Setting) (W H : ℕ) (f : List ℤ) (x room work : ℕ) (level : �
   traced-level = checked .0
 
   pub traced-exact : length f ≡ W * H
-  traced-exact = eqb-true (length f) (W * H) (not-false _ (checked .1 .1 .1 .1 .1 .1 .0))
+  traced-exact = eqb-true (length f) (W * H) (not-false _ (checked .1 .1 .1 .1 .1 .1 .1 .0))
 
   pub traced-on : x < W * H
-  traced-on = leb-false (W * H) x (checked .1 .1 .1 .1 .1 .1 .1 .1 .1 .0)
+  traced-on = leb-false (W * H) x (checked .1 .1 .1 .1 .1 .1 .1 .1 .1 .1 .0)
 
   traced-again : Levels f → (room′ : ℕ) → 4 * (s .gaps + 1) * (W * H) ≤ room′ → traceVerdict W H s (filtered s W H f) x (s .length) room′ ≡ accepted level
   unfolding traceVerdict
   traced-again l room′ large =
       let g = filtered s W H f in
       let c = checked .1 in
-      let d = c .1 .1 .1 .1 .1 in
+      let d = c .1 .1 .1 .1 .1 .1 in
       let exact : not (eqb (length g) (W * H)) ≡ false = rw (eq-eqb (length g) (W * H) (filtered-length s W H f)) in
       let whole : not (eqb (s .length) (s .length)) ≡ false = rw (eq-eqb (s .length) (s .length) refl) in
       clear-accepted (traceChecks W H s (length g) x (s .length) room′) (levelAt (filtered s W H g) x)
-      (c .0, (c .1 .0, (c .1 .1 .0, (c .1 .1 .1 .0, (c .1 .1 .1 .1 .0, (exact, (whole, (le-ltb _ _ large, d .1 .1 .1))))))))
+      (c .0, (c .1 .0, (c .1 .1 .0, (c .1 .1 .1 .0, (c .1 .1 .1 .1 .0, (c .1 .1 .1 .1 .1 .0, (exact, (whole, (le-ltb _ _ large, d .1 .1 .1)))))))))
       ∙ ap accepted (ap (λ (h : List ℤ). levelAt h x) (filtered-idempotent s W H f l) ∙ traced-level)
 
   -- ---- demand 3
@@ -78,13 +94,13 @@ module _ (s : Setting) (W H : ℕ) (f : List ℤ) (x room work : ℕ) (level : �
     -- a better level, up to the pixel's own, at which another path counts, would be the filtered level or a worse one
     nothing-better :
         (t : ℤ) → T (better s t level) → (T (better s t (levelAt f x)) → ⊥) → (way : ℕ) → List·Memᴰ way (chosen (s .directions)) → (other : List ℕ) →
-        List·Memᴰ other (pathsIn W H (s .length) way) → T (through x other) → short s f t other ≤ s .gaps → ⊥
+        List·Memᴰ other (pathsIn W H (s .length) way) → T (through x other) → Few s f t other → ⊥
     nothing-better t higher own way chosen-way other is-path crosses few =
         let listed : List·Memᴰ other (paths W H (s .directions) (s .length)) = paths-keep W H (s .directions) (s .length) chosen-way is-path in
         let on : (p : ℕ) → List·Memᴰ p other → p < length f = λ p i. omega (arith, listed-on W H (s .directions) (s .length) other listed p i, traced-exact) in
         let within : asMode s t ≤ℤ asMode s (levelAt f x) = ltZ-no (not-T (ltZ (asMode s (levelAt f x)) (asMode s t)) (λ u. own (rw (better-turned s t (levelAt f x)) u))) in
         let above : asMode s level <ℤ asMode s t = ltZ-yes (rw (← better-turned s t level) higher) in
-        let counts : T (admits s (map (asMode s) f) (asMode s t) other) = few-admitted s (map (asMode s) f) (asMode s t) other (omega (arith, short-turned s f t other on)) in
+        let counts : T (admits s (map (asMode s) f) (asMode s t) other) = few-counts s f t other on few in
         let small : mag (asMode s t) < 32768 = mag-between (lt-le above) within level-small (own-small (levelAt f x) (l .size x)) in
         clashℤ above
         (rw traced-level at
@@ -102,7 +118,7 @@ module _ (s : Setting) (W H : ℕ) (f : List ℤ) (x room work : ℕ) (level : �
           is-path = is-path;
           is-chosen = chosen-way;
           crosses = crosses;
-          few = omega (arith, short-turned s f level path on, admitted-few s (map (asMode s) f) (asMode s level) path counts);
+          few = counts-few s f level path on counts;
           best = nothing-better;
           is-filtered = sym traced-level;
           again = traced-again l;

@@ -4,7 +4,7 @@
 use Prim.Native.Nat.{ℕ, zero, suc, _+_, _-_, min, max}
 use mathlib.Core.Bool.{Bool, cond}
 use mathlib.Core.List.{List, [], _∷_}
-use lib.Dec.{ltb}
+use lib.Dec.{ltb, eqb}
 use lib.IntN.{ℤ}
 use lib.ListN.{getD}
 use Rattle.basics.specs.Lists.{upFrom}
@@ -51,40 +51,50 @@ unfoldable pub fewer : (ℕ → ℕ) → ℕ → ℕ
 fewer g zero = 0
 fewer g (suc j) = g j
 
--- the highest key at which a single pixel of key a counts: its own, or any where it may be a gap
-unfoldable pub alone : ℕ → ℕ → ℕ
-alone a zero = a
-alone a (suc j) = 65535
+-- the highest key at which the end of a path may be a gap: every one, or none where ends must be crack (document 02, N5); called `slack` below
+unfoldable pub gapEnd : ℕ → ℕ
+gapEnd ends = cond (eqb ends 1) 0 65535
 
--- the highest key t at which a walk of m steps from p has at most j pixels below t: the first pixel is at least t, or it is a gap
-unfoldable pub bestWalk : (ℕ → List ℕ) → (ℕ → ℕ) → ℕ → ℕ → ℕ → ℕ
-bestWalk next g zero j p = alone (g p) j
-bestWalk next g (suc m) j p = max (min (g p) (best (bestWalk next g m j) (next p))) (fewer (λ i. best (bestWalk next g m i) (next p)) j)
+-- the highest key at which a pixel of key a may be an end of a path, with a gap left for it
+abbrev pub ended : ℕ → ℕ → ℕ
+ended slack a = max a slack
 
--- the highest key t at which a walk of m steps from p, to a pixel that passes the test, has at most j pixels below t
-unfoldable pub bestWalkTo : (ℕ → List ℕ) → (ℕ → ℕ) → (ℕ → Bool) → ℕ → ℕ → ℕ → ℕ
-bestWalkTo next g ends zero j p = cond (ends p) (alone (g p) j) 0
-bestWalkTo next g ends (suc m) j p =
-    max (min (g p) (best (bestWalkTo next g ends m j) (next p))) (fewer (λ i. best (bestWalkTo next g ends m i) (next p)) j)
+-- the highest key at which a single pixel of key a counts, with j gaps left for it
+unfoldable pub alone : ℕ → ℕ → ℕ → ℕ
+alone slack a zero = a
+alone slack a (suc j) = ended slack a
+
+-- the highest key t at which a walk of m steps from p has at most j pixels below t and may end where it does: the first pixel is at least t, or it is
+-- a gap
+unfoldable pub bestWalk : ℕ → (ℕ → List ℕ) → (ℕ → ℕ) → ℕ → ℕ → ℕ → ℕ
+bestWalk slack next g zero j p = alone slack (g p) j
+bestWalk slack next g (suc m) j p =
+    max (min (g p) (best (bestWalk slack next g m j) (next p))) (fewer (λ i. best (bestWalk slack next g m i) (next p)) j)
+
+-- the same of the walks to a pixel that passes the test
+unfoldable pub bestWalkTo : ℕ → (ℕ → List ℕ) → (ℕ → ℕ) → (ℕ → Bool) → ℕ → ℕ → ℕ → ℕ
+bestWalkTo slack next g passes zero j p = cond (passes p) (alone slack (g p) j) 0
+bestWalkTo slack next g passes (suc m) j p =
+    max (min (g p) (best (bestWalkTo slack next g passes m j) (next p))) (fewer (λ i. best (bestWalkTo slack next g passes m i) (next p)) j)
 
 -- ---- the best walk through a pixel
 
 -- one term: a walk of l steps that ends at x with at most i pixels low, and one of the other steps that starts there with the other gaps
-abbrev pub joinedAt : (ℕ → List ℕ) → (ℕ → List ℕ) → (ℕ → ℕ) → ℕ → ℕ → ℕ → ℕ → ℕ → ℕ
-joinedAt next back g m k x l i = min (bestWalk back g l i x) (bestWalk next g (m - l) (k - i) x)
+abbrev pub joinedAt : ℕ → (ℕ → List ℕ) → (ℕ → List ℕ) → (ℕ → ℕ) → ℕ → ℕ → ℕ → ℕ → ℕ → ℕ
+joinedAt slack next back g m k x l i = min (bestWalk slack back g l i x) (bestWalk slack next g (m - l) (k - i) x)
 
 -- the best walk of m steps through x with at most k pixels low, but for the key of x itself
-unfoldable pub bestThrough : (ℕ → List ℕ) → (ℕ → List ℕ) → (ℕ → ℕ) → ℕ → ℕ → ℕ → ℕ
-bestThrough next back g m k x = upto (λ l. upto (joinedAt next back g m k x l) k) m
+unfoldable pub bestThrough : ℕ → (ℕ → List ℕ) → (ℕ → List ℕ) → (ℕ → ℕ) → ℕ → ℕ → ℕ → ℕ
+bestThrough slack next back g m k x = upto (λ l. upto (joinedAt slack next back g m k x l) k) m
 
 -- the same in a direction of the plate
-abbrev pub in-direction : ℕ → ℕ → ℕ → ℕ → ℕ → (ℕ → ℕ) → ℕ → ℕ
-in-direction W H bit m k g x = bestThrough (next W H bit) (back W H bit) g m k x
+abbrev pub in-direction : ℕ → ℕ → ℕ → ℕ → ℕ → ℕ → (ℕ → ℕ) → ℕ → ℕ
+in-direction slack W H bit m k g x = bestThrough slack (next W H bit) (back W H bit) g m k x
 
 -- one term in a direction of the plate
-abbrev pub term : ℕ → ℕ → ℕ → ℕ → ℕ → (ℕ → ℕ) → ℕ → ℕ → ℕ → ℕ
-term W H bit m k g x l i = joinedAt (next W H bit) (back W H bit) g m k x l i
+abbrev pub term : ℕ → ℕ → ℕ → ℕ → ℕ → ℕ → (ℕ → ℕ) → ℕ → ℕ → ℕ → ℕ
+term slack W H bit m k g x l i = joinedAt slack (next W H bit) (back W H bit) g m k x l i
 
 -- the opened key at x, for the directions of these bits and paths of m steps
-unfoldable pub value : ℕ → ℕ → List ℕ → ℕ → ℕ → (ℕ → ℕ) → ℕ → ℕ
-value W H bits m k g x = min (g x) (best (λ bit. in-direction W H bit m k g x) bits)
+unfoldable pub value : ℕ → ℕ → ℕ → List ℕ → ℕ → ℕ → (ℕ → ℕ) → ℕ → ℕ
+value slack W H bits m k g x = min (g x) (best (λ bit. in-direction slack W H bit m k g x) bits)

@@ -6,12 +6,17 @@ use mathlib.Core.Bool.{Bool, true, false}
 use mathlib.Core.List.{List, [], _∷_, map, List·Memᴰ}
 use lib.IntN.{negℤ}
 use Rattle.plate.specs.Directions.{Step, steps}
-use Rattle.plate.specs.Paths.{reachedBy, next}
+use Rattle.plate.specs.Paths.{reachedBy, next, lastAfter}
 
 -- a walk of m steps from p, and its pixels in walking order
 pub data Walk (next : ℕ → List ℕ) : ℕ → ℕ → List ℕ → Type 0 where
   stop : {p : ℕ} → Walk next zero p (p ∷ [])
   go : {m p q : ℕ} {ps : List ℕ} → List·Memᴰ q (next p) → Walk next m q ps → Walk next (suc m) p (p ∷ ps)
+
+-- the last of its pixels, 0 where there is none
+unfoldable pub lastOf : List ℕ → ℕ
+lastOf [] = 0
+lastOf (p ∷ ps) = lastAfter p ps
 
 -- a walk of m steps that has the pixels ps, from wherever it starts; and one that starts at p, over whatever pixels it goes
 pub record WalkOf (next : ℕ → List ℕ) (m : ℕ) (ps : List ℕ) : Type 0 where

@@ -1,4 +1,5 @@
--- Document 01, section 7: the worked plates marked P, as one table, P2's refused trace in it. proofs/WorkedPlates.antt shows that the definitions give these values.
+-- Document 01, section 7: the worked plates marked P, as one table, P2's refused trace in it; and those of document 02, N5, with both values of `ends`.
+-- proofs/WorkedPlates.antt shows that the definitions give these values.
 use Prim.Native.Nat.{ℕ, _+_, _*_}
 use mathlib.Core.Bool.{Bool, true, false, _&&_}
 use mathlib.Core.List.{List, [], _∷_}
@@ -14,7 +15,11 @@ pub data Worked : Type 0 where
   refuses : Setting → (W H : ℕ) → List ℤ → ℕ → ℕ → Worked
 
 abbrev setting : ℕ → ℕ → ℕ → ℕ → Setting
-setting mode directions L k = record { length = L; gaps = k; directions = directions; mode = mode }
+setting mode directions L k = record { length = L; gaps = k; directions = directions; mode = mode; ends = 0 }
+
+-- the same where a path must end on crack
+abbrev crackEnded : Setting → Setting
+crackEnded s = record { length = s .length; gaps = s .gaps; directions = s .directions; mode = s .mode; ends = 1 }
 
 abbrev opening : ℕ
 opening = 0
@@ -52,6 +57,16 @@ Q = pos 9 ∷ pos 5 ∷ pos 12 ∷ pos 8 ∷ []
 abbrev X : List ℤ
 X = pos 1 ∷ pos 9 ∷ pos 9 ∷ pos 1 ∷ []
 
+-- N5's rows: one whose first pixel is the gap, the same for closing, and one with gaps inside and at its end
+abbrev gap-first : List ℤ
+gap-first = pos 5 ∷ pos 9 ∷ pos 12 ∷ pos 8 ∷ []
+
+abbrev gap-first-dark : List ℤ
+gap-first-dark = pos 12 ∷ pos 5 ∷ pos 9 ∷ pos 8 ∷ []
+
+abbrev two-gaps : List ℤ
+two-gaps = pos 9 ∷ pos 1 ∷ pos 9 ∷ pos 9 ∷ pos 1 ∷ []
+
 -- P2 gives its one pixel no level
 abbrev one-pixel : List ℤ
 one-pixel = pos 3 ∷ []
@@ -70,6 +85,17 @@ workedPlates =
     ∷ filters (setting opening north-east 2 0) 2 2 X (pos 1 ∷ pos 9 ∷ pos 9 ∷ pos 1 ∷ [])  -- P8
     ∷ filters (setting opening south-east 2 0) 2 2 X (pos 1 ∷ pos 1 ∷ pos 1 ∷ pos 1 ∷ [])  -- P9
     ∷ filters (setting closing all-four 1 0) 1 1 (low ∷ []) (low ∷ [])  -- P10
+    ∷ filters (setting opening east 4 1) 4 1 gap-first (pos 5 ∷ pos 8 ∷ pos 8 ∷ pos 8 ∷ [])  -- N5
+    ∷ filters (crackEnded (setting opening east 4 1)) 4 1 gap-first (pos 5 ∷ pos 5 ∷ pos 5 ∷ pos 5 ∷ [])  -- N5
+    ∷ filters (setting closing east 4 1) 4 1 gap-first-dark (pos 12 ∷ pos 9 ∷ pos 9 ∷ pos 9 ∷ [])  -- N5
+    ∷ filters (crackEnded (setting closing east 4 1)) 4 1 gap-first-dark (pos 12 ∷ pos 12 ∷ pos 12 ∷ pos 12 ∷ [])  -- N5
+    ∷ filters (setting opening east 3 1) 5 1 two-gaps two-gaps  -- N5
+    ∷ filters (crackEnded (setting opening east 3 1)) 5 1 two-gaps (pos 9 ∷ pos 1 ∷ pos 9 ∷ pos 1 ∷ pos 1 ∷ [])  -- N5
+    ∷ filters (crackEnded (setting opening east 2 1)) 5 1 two-gaps (pos 1 ∷ pos 1 ∷ pos 9 ∷ pos 9 ∷ pos 1 ∷ [])  -- N5: k is idle
+    ∷ filters (crackEnded (setting opening east 4 1)) 4 1 Q (pos 8 ∷ pos 5 ∷ pos 8 ∷ pos 8 ∷ [])  -- N5: the gap of P3 is inside
+    ∷ filters (crackEnded (setting opening all-four 1 0)) 1 1 one-pixel one-pixel  -- N5: one pixel is both ends
+    ∷ filters (crackEnded (setting opening all-four 2 1)) 1 1 one-pixel (low ∷ [])  -- N5
+    ∷ refuses (crackEnded (setting opening all-four 2 1)) 1 1 one-pixel 0 12  -- N5: 12 does not depend on `ends`
     ∷ []
 
 unfoldable pub sameLevel : ℤ → ℤ → Bool

@@ -9,20 +9,19 @@
 //   Ranks, Span        the span law: a path of length L crosses a pixel exactly if the span is at least L
 //   Sides              walking on and walking back, as one
 //   Highest            the downward search finds the highest level that passes
-//   Admission          which paths count at a level; a part of a path that counts does so too
+//   Admission          which paths count at a level, with both values of `ends`
 //   Opening            the opened level is attained and is the highest; it is not above the plate; it is
 //                      monotone in the plate
 //   Idempotent         opening twice is opening once
 //   Mirror             all these carry over to mode 1, by one lemma on the mirror (filtered-as-mode)
-//   Longer             a longer length keeps no more
+//   Longer             a longer length keeps no more, where ends may be gaps
 //   SievingTwice       filtering by two lengths is one filtering by the larger
 //   Maxima, LevelSets  the level-set lemma: the recursion over keys finds just the walks that are there
 //   Splitting          the splitting lemma: a walk through a pixel by its two halves, whose counts add up
 //   Decomposition      the decomposition: the best pair of halves is the opened level
 //   Terms              the same term by term, in any order
-//   Following          a walk that counts is followed pixel by pixel
 //   Recorded           a path as it stands in a buffer
 //   Trace              demand 3 follows from a counted path at the filtered level
-//   Ends               walks that may end at some pixels only: bounds, one step on, and turned round
+//   WalksTo            walks that may end at some pixels only: bounds, one step on, and turned round
 //   Towards            the best walks from one pixel, by a recursion that looks back from where they end
-//   WorkedPlates       document 01's worked plates hold of the definitions
+//   WorkedPlates       the worked plates of documents 01 and 02 hold of the definitions

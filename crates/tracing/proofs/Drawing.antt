@@ -1,5 +1,5 @@
 -- The two trails from x make one walk: the trail on as it was written, the trail back with each step turned round. Their low pixels add up, and x counts
--- at most once.
+-- at most once; their far ends are its ends.
 use Prim.Native.Nat.{ℕ, suc, _+_, _-_, _≤_, _<_}
 use mathlib.Core.Path.{_≡_, ap, subst, _∙_}
 use mathlib.Core.Bool.{true, false}
@@ -14,13 +14,16 @@ use Rattle.theory.proofs.Reversal.{turn-back}
 use Rattle.theory.proofs.Recorded.{recorded-walk, low-recorded, low-split, low-same}
 use Rattle.tracing.specs.Following.{Trail, lowAlong}
 use Rattle.tracing.specs.Drawing.{Drawn}
-use Rattle.theory.specs.Walks.{around}
-use Rattle.theory.specs.BestWalks.{under, lowPixels, lowFrom}
+use Rattle.theory.proofs.Walks.{last-at}
+use Rattle.theory.specs.Walks.{Walk, around, lastOf}
+use Rattle.theory.specs.BestWalks.{under, lowPixels, lowFrom, ended}
 
-module _ (W H bit : ℕ) (g : ℕ → ℕ) (t m k x l i : ℕ) (first mid path : List ℕ) (l≤m : l ≤ m) (i≤k : i ≤ k) (size : length first ≡ m + 1)
+module _ (slack W H bit : ℕ) (g : ℕ → ℕ) (t m k x l i : ℕ) (first mid path : List ℕ) (l≤m : l ≤ m) (i≤k : i ≤ k) (size : length first ≡ m + 1)
     (here : getD first l 0 ≡ x)
     (on : Trail W H bit false first mid l (m - l)) (few-on : lowAlong false g t mid l (m - l + 1) ≤ k - i)
-    (back : Trail W H bit true mid path l l) (few-back : lowAlong true g t path l (l + 1) ≤ i) where
+    (end-on : t ≤ ended slack (g (getD mid (l + (m - l)) 0)))
+    (back : Trail W H bit true mid path l l) (few-back : lowAlong true g t path l (l + 1) ≤ i)
+    (end-back : t ≤ ended slack (g (getD path (l - l) 0))) where
   -- the steps from x on
   step-on : (j : ℕ) → l ≤ j → j < m → List·Memᴰ (getD path (suc j) 0) (next W H bit (getD path j 0))
   unfolding around
@@ -65,10 +68,24 @@ module _ (W H bit : ℕ) (g : ℕ → ℕ) (t m k x l i : ℕ) (first mid path :
       let parts : lowFrom g t path 0 (l + 1 + (m - l)) ≡ lowFrom g t path 0 (l + 1) + lowFrom g t path (suc l) (m - l) = rw f at (low-split g t path 0 (l + 1) (m - l)) in
       omega (arith, low-after)
 
-  pub drawn : Drawn W H bit g t m k x path
+  whole-walk : Walk (next W H bit) m (getD path 0 0) path
+  whole-walk = recorded-walk (next W H bit) m path whole step-each
+
+  -- the trail back ends where the walk starts, and the trail on where it ends
+  start-clear : t ≤ ended slack (g (getD path 0 0))
+  start-clear = let e : l - l ≡ 0 = omega arith in rw e at end-back
+
+  end-clear : t ≤ ended slack (g (lastOf path))
+  end-clear =
+      let e : l + (m - l) ≡ m = omega arith in
+      rw (last-at whole-walk, back .kept m l≤m) (rw e at end-on)
+
+  pub drawn : Drawn slack W H bit g t m k x path
   drawn =
       record {
-        walk = recorded-walk (next W H bit) m path whole step-each;
+        walk = whole-walk;
         crosses = subst (λ (p : ℕ). List·Memᴰ p path) x-there (getD-in path l 0 (omega (arith, whole)));
         few = few-all;
+        starts = start-clear;
+        ends = end-clear;
       }

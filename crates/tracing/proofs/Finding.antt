@@ -15,6 +15,7 @@ use Rattle.tracing.specs.declared.scan.Scan.{Scan}
 use Rattle.tracing.specs.Usable.{usable, FirstUsable}
 use Rattle.tracing.specs.Finding.{Attained, FoundIn, FoundAt, BestOf, keysBy}
 use Rattle.tracing.specs.Drawing.{Drawn}
+use Rattle.theory.specs.BestWalks.{gapEnd}
 use Rattle.tracing.specs.declared.find.Found.{Found}
 
 -- the work buffer keeps its size
@@ -40,21 +41,21 @@ module _ (r : Scan) (W H : ℕ) (s : Setting) (index : ℕ) (sound : Sound r) (o
       omega (arith, of .is-steps)
 
   pub scan-found :
-      (f : List ℤ) (x : ℕ) (old new : Found) → FoundIn (r .width) (r .height) (r .steps) (r .setting .gaps) (r .spare) (keyOf r f) x (r .index) old new →
+      (f : List ℤ) (x : ℕ) (old new : Found) → FoundIn (r .slack) (r .width) (r .height) (r .steps) (r .setting .gaps) (r .spare) (keyOf r f) x (r .index) old new →
       FoundAt W H s f x index old new
   scan-found f x old new d =
-      rw (scan-keys f, scan-spare, of .is-width, of .is-height, of .is-steps, of .is-setting, of .is-index) at d
+      rw (scan-keys f, scan-spare, of .is-width, of .is-height, of .is-steps, of .is-slack, of .is-setting, of .is-index) at d
 
   pub scan-attained :
-      (f : List ℤ) (x t before gaps : ℕ) → Attained W H (s .length - 1) (s .gaps) (span W H (2 ^ index) - s .length) (keysBy (s .mode) f) x (2 ^ index) t before gaps →
-      Attained (r .width) (r .height) (r .steps) (r .setting .gaps) (r .spare) (keyOf r f) x (bitOf r) t before gaps
+      (f : List ℤ) (x t before gaps : ℕ) → Attained (gapEnd (s .ends)) W H (s .length - 1) (s .gaps) (span W H (2 ^ index) - s .length) (keysBy (s .mode) f) x (2 ^ index) t before gaps →
+      Attained (r .slack) (r .width) (r .height) (r .steps) (r .setting .gaps) (r .spare) (keyOf r f) x (bitOf r) t before gaps
   scan-attained f x t before gaps a =
-      rw (scan-keys f, scan-spare, of .is-width, of .is-height, of .is-steps, of .is-setting, of .is-index) a
+      rw (scan-keys f, scan-spare, of .is-width, of .is-height, of .is-steps, of .is-slack, of .is-setting, of .is-index) a
 
   pub scan-drawn :
-      (f : List ℤ) (x t : ℕ) (path : List ℕ) → Drawn (r .width) (r .height) (bitOf r) (keyOf r f) t (r .steps) (r .setting .gaps) x path →
-      Drawn W H (2 ^ index) (keysBy (s .mode) f) t (s .length - 1) (s .gaps) x path
-  scan-drawn f x t path d = rw (scan-keys f, of .is-width, of .is-height, of .is-steps, of .is-setting, of .is-index) at d
+      (f : List ℤ) (x t : ℕ) (path : List ℕ) → Drawn (r .slack) (r .width) (r .height) (bitOf r) (keyOf r f) t (r .steps) (r .setting .gaps) x path →
+      Drawn (gapEnd (s .ends)) W H (2 ^ index) (keysBy (s .mode) f) t (s .length - 1) (s .gaps) x path
+  scan-drawn f x t path d = rw (scan-keys f, of .is-width, of .is-height, of .is-steps, of .is-slack, of .is-setting, of .is-index) at d
 
 -- ---- one direction after the other
 
@@ -62,7 +63,7 @@ module _ (W H : ℕ) (s : Setting) (f : List ℤ) (x : ℕ) where
   -- before the first usable direction nothing is to be found
   pub best-first :
       (first : ℕ) (old new : Found) → FirstUsable W H s first → first < 4 → old .index ≡ first →
-      Attained W H (s .length - 1) (s .gaps) (span W H (2 ^ first) - s .length) (keysBy (s .mode) f) x (2 ^ first) (old .key) (old .before) (old .gaps) →
+      Attained (gapEnd (s .ends)) W H (s .length - 1) (s .gaps) (span W H (2 ^ first) - s .length) (keysBy (s .mode) f) x (2 ^ first) (old .key) (old .before) (old .gaps) →
       FoundAt W H s f x first old new → BestOf W H s f x (first + 1) new
   best-first first old new u l e a d =
       record {

@@ -1,8 +1,8 @@
 -- A trail that is written from its far end inwards. While n steps are left, the pixels more than n steps from the picked one are written, each a step
 -- from the one before it, and the first of them is a step from the pixel that comes next; their low pixels and the gaps left are together no more than
--- the gaps. With no steps left the pixel that comes next is the picked one, and the trail is whole.
+-- the gaps. With no steps left the pixel that comes next is the picked one, and the trail is whole. Its far end is written first, and stays.
 use Prim.Native.Nat.{ℕ, suc, _+_, _-_, _≤_, _<_}
-use mathlib.Core.Path.{_≡_, refl, sym, ap, _∙_}
+use mathlib.Core.Path.{_≡_, refl, sym, ap, subst, _∙_}
 use mathlib.Core.Bool.{Bool, true, false}
 use mathlib.Core.List.{List, List·Memᴰ}
 use mathlib.Core.Logic.{⊎-elim}
@@ -12,7 +12,7 @@ use lib.Seq.{getD-set-same, getD-set-other}
 use Rattle.basics.proofs.Numbers.{le-or-lt}
 use Rattle.theory.proofs.Recorded.{low-last, low-same}
 use Rattle.tracing.specs.Following.{indexAfter, Within, Behind, Trail, lowAlong}
-use Rattle.theory.specs.BestWalks.{under, lowFrom}
+use Rattle.theory.specs.BestWalks.{under, lowFrom, ended}
 use Rattle.theory.specs.Walks.{around}
 use Rattle.tracing.proofs.Trails.{index-first, index-within, within-less, behind-other}
 
@@ -71,7 +71,7 @@ index-beyond : (b : Bool) (size start m n i : ℕ) → Within b size start m →
 index-beyond true size start m n i w h l e = omega arith
 index-beyond false size start m n i w h l e = omega arith
 
-module _ (W H bit : ℕ) (b : Bool) (g : ℕ → ℕ) (t : ℕ) (old : List ℕ) (start m gaps : ℕ) where
+module _ (slack W H bit : ℕ) (b : Bool) (g : ℕ → ℕ) (t : ℕ) (old : List ℕ) (start m gaps : ℕ) where
   pub record Inward (path : List ℕ) (n here left : ℕ) : Type 0 where
     pub step : (i : ℕ) → n < i → i < m →
         List·Memᴰ (getD path (indexAfter b start (i + 1)) 0) (around b W H bit (getD path (indexAfter b start i) 0))
@@ -79,15 +79,20 @@ module _ (W H bit : ℕ) (b : Bool) (g : ℕ → ℕ) (t : ℕ) (old : List ℕ)
     pub kept : (q : ℕ) → Behind b start q → getD path q 0 ≡ getD old q 0
     pub len : length path ≡ length old
     pub few : lowBeyond b g t path start m n + left ≤ gaps
+    -- the far end, once it is written, and before
+    pub far : n < m → t ≤ ended slack (g (getD path (indexAfter b start m) 0))
+    pub first : n ≡ m → t ≤ ended slack (g here)
 
-  pub inward-far : (here left : ℕ) → left ≤ gaps → Inward old m here left
-  inward-far here left h =
+  pub inward-far : (here left : ℕ) → left ≤ gaps → t ≤ ended slack (g here) → Inward old m here left
+  inward-far here left h end =
       record {
         step = λ i l u. absurd (omega arith);
         next = λ l. absurd (omega arith);
         kept = λ q h. refl;
         len = refl;
         few = omega (arith, beyond-none b g t old start m);
+        far = λ l. absurd (omega arith);
+        first = λ e. end;
       }
 
   module _ (within : Within b (length old) start m) where
@@ -124,6 +129,14 @@ module _ (W H bit : ℕ) (b : Bool) (g : ℕ → ℕ) (t : ℕ) (old : List ℕ)
                 beyond-same b g t path (length old) start m (suc n) here within h,
                 ap (λ (q : ℕ). under t (g q)) written,
               );
+          far = λ l.
+              ⊎-elim
+              (λ a. let e : suc n ≡ m = omega arith in
+              let at-end : getD (set path i0 here) (indexAfter b start m) 0 ≡ here = subst (λ (k : ℕ). getD (set path i0 here) (indexAfter b start k) 0 ≡ here) e written in
+              rw at-end (d .first e))
+              (λ a. rw (same m a (omega arith)) (d .far a))
+              (le-or-lt m (suc n));
+          first = λ e. absurd (omega arith);
         }
 
     -- the picked pixel comes next
@@ -143,6 +156,13 @@ module _ (W H bit : ℕ) (b : Bool) (g : ℕ → ℕ) (t : ℕ) (old : List ℕ)
             kept = d .kept;
             len = d .len;
           }
+
+      pub inward-end : t ≤ ended slack (g (getD path (indexAfter b start m) 0))
+      inward-end =
+          ⊎-elim (λ a. d .far a)
+          (λ a. let e : 0 ≡ m = omega arith in
+          subst (λ (k : ℕ). t ≤ ended slack (g (getD path (indexAfter b start k) 0))) e (rw first-kept (d .first e)))
+          (le-or-lt 1 m)
 
       pub inward-few : under t (g here) ≤ left → lowAlong b g t path start (m + 1) ≤ gaps
       inward-few h =

@@ -4,11 +4,13 @@ pub mod Ahead
 pub mod Directions
 pub mod Modes
 pub mod Sighting
+pub mod Endings
 pub mod SeenLaws
 pub mod Picking
 pub mod Nearing
 pub mod Trails
 pub mod Inward
+pub mod FarEnd
 pub mod Walking
 pub mod Searching
 pub mod Noting

@@ -12,7 +12,7 @@ use lib.IntN.{ℤ}
 use borrow.Author.Tests.{eqb-true, ne-eqb}
 use Rattle.basics.proofs.Numbers.{le-or-lt, le-max-split}
 use Rattle.theory.proofs.LevelSets.{under-low, under-high}
-use Rattle.theory.proofs.Ends.{from-last}
+use Rattle.theory.proofs.WalksTo.{from-last}
 use Rattle.theory.proofs.Towards.{turn-opposite}
 use Rattle.plans.specs.Plans.{Sound as PlanSound, lineAt, rowLo, rowHi, rowAt, rowsIn, starts}
 use Rattle.states.specs.States.{seen, ahead, Grown}
@@ -228,9 +228,9 @@ module _ (s : Scan) (b : Bool) (plate : List ℤ) (x : ℕ) (r : Sight) (sound :
   stand-picked e =
       let q : ℕ = pixelIn (r .frame) (r .plan .ranked) (lineAt (r .plan) (stand .state) (stand .row)) (stand .pixel) in
       let none : stepsAt (r .plan) (stand .state) (stand .row) ≡ 0 = d .steps ∙ e in
-      let h : t ≤ bestWalkTo (around (opposite b) W H (bitOf s)) (keyOf s plate) (λ p. eqb p x) 0 (stand .gaps) q =
-      subst (λ (k : ℕ). t ≤ bestWalkTo (around (opposite b) W H (bitOf s)) (keyOf s plate) (λ p. eqb p x) k (stand .gaps) q) none (d .tells .counts) in
-      let l = from-last (around (opposite b) W H (bitOf s)) (keyOf s plate) (λ p. eqb p x) t (stand .gaps) q positive h in
+      let h : t ≤ bestWalkTo (r .plan .slack) (around (opposite b) W H (bitOf s)) (keyOf s plate) (λ p. eqb p x) 0 (stand .gaps) q =
+      subst (λ (k : ℕ). t ≤ bestWalkTo (r .plan .slack) (around (opposite b) W H (bitOf s)) (keyOf s plate) (λ p. eqb p x) k (stand .gaps) q) none (d .tells .counts) in
+      let l = from-last (r .plan .slack) (around (opposite b) W H (bitOf s)) (keyOf s plate) (λ p. eqb p x) t (stand .gaps) q positive h in
       (place-is ∙ eqb-true q x (l .0), rw place-is (l .1))
 
   -- where a step leads from it

@@ -1,6 +1,6 @@
 -- The notes of one side. They rise place by place: to the numbers of a run, of the planes of a row, of the rows of a state, of all states. Each is the
 -- same law, `lifted-then`: what rises to some numbers and then to others has risen to both.
-use Prim.Native.Nat.{ℕ, _+_, _-_, _*_, _≤_, _<_, max}
+use Prim.Native.Nat.{ℕ, _+_, _-_, _*_, _≤_, _<_, min, max}
 use mathlib.Core.Path.{_≡_, refl, sym, ap, subst, _∙_}
 use mathlib.Core.List.{List}
 use mathlib.Core.Logic.{_⊎_, inl, inr, ⊎-elim}
@@ -12,33 +12,44 @@ use borrow.Author.Tests.{eqb-true, eqb-false}
 use Rattle.basics.proofs.Numbers.{le-or-lt}
 use Rattle.basics.proofs.Tests.{true-or-false}
 use Rattle.states.specs.Runs.{Apart}
-use Rattle.plans.specs.Plans.{Sound, rowsIn, rowLo, rowHi, rowSize, stateSize, keysSize}
-use Rattle.states.specs.States.{Holds, LastHolds, Advanced}
+use Rattle.plans.specs.Plans.{Sound, rowsIn, rowLo, rowHi, rowAt, rowSize, stateSize, keysSize}
+use Rattle.states.specs.States.{LastHolds, Advanced}
 use Rattle.sweeps.specs.Stacks.{KeysAre, Sequence}
 use Rattle.sweeps.proofs.StackLaws.{apart-none, apart-then, keys-apart, made, last-made}
 use Rattle.plans.specs.declared.plan.Plan.{Plan}
 use Rattle.directions.specs.Numbers.{stepsAt}
-use Rattle.tracing.specs.Noting.{Highest, Lifted, FromRow, FromState, NotesFit, rowCells, stateCells}
+use Rattle.tracing.specs.Noting.{Highest, Lifted, FromRow, FromState, NotesFit, rowEnded}
+use Rattle.tracing.specs.Endings.{endedAt, endedIn}
+use Rattle.theory.specs.BestWalks.{ended}
+use Rattle.tracing.proofs.Endings.{endedBy, ended-held}
 
 -- ---- the highest of a run
 
-pub highest-none : (f : ℕ → ℕ) (at v : ℕ) → Highest f at (at + 0) v v
-highest-none f at v = record { not-below = omega arith; best = λ x l h. absurd (omega arith); source = inl refl }
+pub highest-none : (f : ℕ → ℕ) (v : ℕ) → Highest f 0 0 v v
+highest-none f v = record { not-below = omega arith; best = λ x l h. absurd (omega arith); source = inl refl }
 
-pub highest-more :
-    (f : ℕ → ℕ) (at n v r u : ℕ) → Highest f at (at + n) v r → u ≡ max r (f (at + n)) → Highest f at (at + (n + 1)) v u
-highest-more f at n v r u h e =
+pub highest-more : (f : ℕ → ℕ) (n v r u : ℕ) → Highest f 0 n v r → u ≡ max r (f n) → Highest f 0 (n + 1) v u
+highest-more f n v r u h e =
     record {
       not-below = omega (arith, h .not-below);
-      best = λ x lo hi. ⊎-elim (λ l. let same : x ≡ at + n = omega (arith, l) in rw same (omega arith)) (λ l. omega (arith, h .best x lo l))
-          (le-or-lt (at + n) x);
+      best = λ x lo hi. ⊎-elim (λ l. let same : x ≡ n = omega (arith, l) in rw same (omega arith)) (λ l. omega (arith, h .best x lo l)) (le-or-lt n x);
       source =
           ⊎-elim
-          (λ l. let w : u ≡ f (at + n) = omega arith in inr (at + n, omega arith, omega arith, w))
+          (λ l. let w : u ≡ f n = omega arith in inr (n, omega arith, omega arith, w))
           (λ l.
           let w : u ≡ r = omega arith in
           ⊎-elim (λ s. inl (w ∙ s)) (λ s. inr (s .0, s .1, omega (arith, s .2), w ∙ s .3)) (h .source))
-          (le-or-lt r (f (at + n)));
+          (le-or-lt r (f n));
+    }
+
+-- where a path may end anywhere, what walks count for at a pixel is its number
+pub highest-free :
+    (f key : ℕ → ℕ) (slack n v r : ℕ) → slack ≡ 65535 → r ≤ 65535 → Highest f 0 n v r → Highest (λ x. min (f x) (ended slack (key x))) 0 n v r
+highest-free f key slack n v r e small h =
+    record {
+      not-below = h .not-below;
+      best = λ x lo hi. omega (arith, h .best x lo hi);
+      source = ⊎-elim inl (λ s. let w : r ≡ min (f (s .0)) (ended slack (key (s .0))) = omega (arith, s .3) in inr (s .0, s .1, s .2, w)) (h .source);
     }
 
 -- ---- rising to some numbers, and then to others
@@ -148,22 +159,23 @@ module _ (f : ℕ → ℕ → ℕ) (lo hi to j : ℕ) where
   row-lifted-more r old mid l d h =
       lifted-then _ _ _ old mid (set mid (to + j) r) row-split row-wider row-last d (lifted-set (f j) lo hi (to + j) r mid l h)
 
--- the run of the work buffer that is plane j of a row
-pub highest-cells :
-    (work : List ℕ) (at across j lo hi from n v r : ℕ) → lo ≤ hi → n ≡ hi - lo → from ≡ at + lo + j * across →
-    Highest (λ (x : ℕ). getD work x 0) from (from + n) v r → Highest (rowCells work at across j) lo hi v r
-highest-cells work at across j lo hi from n v r o en ef h =
-    record {
-      not-below = h .not-below;
-      best = λ x l u. h .best (at + (j * across + x)) (omega arith) (omega arith);
-      source =
-          ⊎-elim inl
-          (λ s.
-          let x = s .0 - (at + j * across) in
-          let e : s .0 ≡ at + (j * across + x) = omega (arith, s .1) in
-          inr (x, omega (arith, s .1), omega (arith, s .1, s .2), s .3 ∙ ap (λ (i : ℕ). getD work i 0) e))
-          (h .source);
-    }
+-- the run of the work buffer that is plane j of a row, with the run of its keys
+module _ (work : List ℕ) (slack key at across j lo hi from keys n v r : ℕ) (ordered : lo ≤ hi) (is-n : n ≡ hi - lo)
+    (is-from : from ≡ at + lo + j * across) (is-keys : keys ≡ key + lo) where
+  cell-same : (x k : ℕ) → x ≡ lo + k → endedAt work slack (keys + k) (from + k) ≡ rowEnded work slack key at across j x
+  cell-same x k e =
+      let there : from + k ≡ at + (j * across + x) = omega arith in
+      let beside : keys + k ≡ key + x = omega arith in
+      rw (there, beside)
+
+  pub highest-cells : Highest (λ (k : ℕ). endedAt work slack (keys + k) (from + k)) 0 n v r → Highest (rowEnded work slack key at across j) lo hi v r
+  highest-cells h =
+      record {
+        not-below = h .not-below;
+        best = λ x l u. let e : x ≡ lo + (x - lo) = omega arith in rw (cell-same x (x - lo) e) at (h .best (x - lo) (omega arith) (omega arith));
+        source =
+            ⊎-elim inl (λ s. inr (lo + s .0, omega arith, omega (arith, s .2), s .3 ∙ cell-same (lo + s .0) (s .0) refl)) (h .source);
+      }
 
 -- ---- the rows of a state
 
@@ -211,16 +223,18 @@ row-same f g lo hi to planes q v e s =
 
 -- row m of a state in the work buffer
 pub row-in-state :
-    (p : Plan) (to e m at base lo hi steps : ℕ) (work old new : List ℕ) → at ≡ base + m * rowSize p → lo ≡ rowLo p e m → hi ≡ rowHi p e m →
-    steps ≡ stepsAt p e m → Lifted (FromRow (rowCells work at (p .across)) lo hi (to + steps * p .planes) (p .planes)) old new →
-    Lifted (FromRow (stateCells work base p m) (rowLo p e m) (rowHi p e m) (to + stepsAt p e m * p .planes) (p .planes)) old new
-row-in-state p to e m at base lo hi steps work old new ea el eh es d =
-    let cell : (j x : ℕ) → rowCells work at (p .across) j x ≡ stateCells work base p m j x =
-    λ j x. ap (λ (i : ℕ). getD work i 0) (let i : at + (j * p .across + x) ≡ base + (m * rowSize p + (j * p .across + x)) = omega arith in i) in
+    (p : Plan) (slack to e m at base lo hi keys steps : ℕ) (work old new : List ℕ) → at ≡ base + m * rowSize p → lo ≡ rowLo p e m → hi ≡ rowHi p e m →
+    keys ≡ rowAt p e m → steps ≡ stepsAt p e m →
+    Lifted (FromRow (rowEnded work slack keys at (p .across)) lo hi (to + steps * p .planes) (p .planes)) old new →
+    Lifted (FromRow (endedIn work slack base p e m) (rowLo p e m) (rowHi p e m) (to + stepsAt p e m * p .planes) (p .planes)) old new
+row-in-state p slack to e m at base lo hi keys steps work old new ea el eh ek es d =
+    let cell : (j x : ℕ) → rowEnded work slack (rowAt p e m) at (p .across) j x ≡ endedIn work slack base p e m j x =
+    λ j x. ap (λ (i : ℕ). endedAt work slack (rowAt p e m + x) i)
+    (let i : at + (j * p .across + x) ≡ base + (m * rowSize p + (j * p .across + x)) = omega arith in i) in
     lifted-same _ _ old new
     (λ q v s. row-same _ _ _ _ _ _ q v (λ j x _ _ _. cell j x) s)
     (λ q v s. row-same _ _ _ _ _ _ q v (λ j x _ _ _. sym (cell j x)) s)
-    (rw (el, eh, es) at d)
+    (rw (el, eh, ek, es) at d)
 
 -- ---- the states of a side
 
@@ -253,42 +267,49 @@ module _ (p : Plan) (f : ℕ → ℕ → ℕ → ℕ → ℕ) (to e : ℕ) where
       (le-or-lt e (s .state))
 
   side-lifted-more :
-      (base : ℕ) (work old mid new : List ℕ) → Holds work base p e (f e) → Lifted (FromSide p f to e) old mid →
-      Lifted (FromState p (stateCells work base p) to e (rowsIn p e)) mid new → Lifted (FromSide p f to (e + 1)) old new
-  side-lifted-more base work old mid new h d n =
+      (slack base : ℕ) (work old mid new : List ℕ) →
+      ((m j x : ℕ) → m < rowsIn p e → j < p .planes → rowLo p e m ≤ x → x < rowHi p e m → endedIn work slack base p e m j x ≡ f e m j x) →
+      Lifted (FromSide p f to e) old mid → Lifted (FromState p (endedIn work slack base p e) to e (rowsIn p e)) mid new →
+      Lifted (FromSide p f to (e + 1)) old new
+  side-lifted-more slack base work old mid new same d n =
       lifted-then _ _ _ old mid new side-split
       (λ q v s. record { state = s .state; state-below = omega (arith, s .state-below); number = s .number })
       (λ q v s. record { state = e; state-below = omega arith; number = s })
       d
       (lifted-same _ _ mid new
-      (λ q v s. state-same p _ _ to e q v (h .is) s)
-      (λ q v s. state-same p _ _ to e q v (λ m j x hm hj lo hi. sym (h .is m j x hm hj lo hi)) s)
+      (λ q v s. state-same p _ _ to e q v same s)
+      (λ q v s. state-same p _ _ to e q v (λ m j x hm hj lo hi. sym (same m j x hm hj lo hi)) s)
       n)
 
 -- the first e states are made one after the other and noted, whatever they are
-pub record SideNoted (p : Plan) (states to base e : ℕ) (work₀ work notes₀ notes : List ℕ) : Type 0 where
+pub record SideNoted (p : Plan) (slack states to base e : ℕ) (work₀ work notes₀ notes : List ℕ) : Type 0 where
   pub is : (keys : ℕ → ℕ) (f : ℕ → ℕ → ℕ → ℕ → ℕ) → KeysAre work₀ p keys → Sequence p keys states f →
-      LastHolds work base p e (f (e - 1)) × Lifted (FromSide p f to e) notes₀ notes
+      LastHolds work base p e (f (e - 1)) × Lifted (FromSide p (endedBy slack p keys f) to e) notes₀ notes
   pub apart : Apart work₀ work base (base + stateSize p)
 
-pub side-none : (p : Plan) (states to base : ℕ) (work notes : List ℕ) → SideNoted p states to base 0 work work notes notes
-side-none p states to base work notes =
+pub side-none : (p : Plan) (slack states to base : ℕ) (work notes : List ℕ) → SideNoted p slack states to base 0 work work notes notes
+side-none p slack states to base work notes =
     record {
       is = λ keys f k s. (record { is = λ d l e. absurd (omega arith) }, lifted-none _ notes (λ q v s. omega (arith, s .state-below)));
       apart = apart-none work base (base + stateSize p);
     }
 
 pub side-more :
-    (p : Plan) → Sound p → (states to base e : ℕ) (work₀ work work′ notes₀ notes notes′ : List ℕ) → e < 65536 → e < states → keysSize p ≤ base →
-    SideNoted p states to base e work₀ work notes₀ notes → Advanced p e work work′ base base →
-    Lifted (FromState p (stateCells work′ base p) to e (rowsIn p e)) notes notes′ → SideNoted p states to base (e + 1) work₀ work′ notes₀ notes′
-side-more p sound states to base e work₀ work work′ notes₀ notes notes′ few below clear d a n =
+    (p : Plan) → Sound p → (slack states to base e : ℕ) (work₀ work work′ notes₀ notes notes′ : List ℕ) → e < 65536 → e < states → keysSize p ≤ base →
+    SideNoted p slack states to base e work₀ work notes₀ notes → Advanced p e work work′ base base →
+    Lifted (FromState p (endedIn work′ slack base p e) to e (rowsIn p e)) notes notes′ → SideNoted p slack states to base (e + 1) work₀ work′ notes₀ notes′
+side-more p sound slack states to base e work₀ work work′ notes₀ notes notes′ few below clear d a n =
+    let both = apart-then work₀ work work′ base (base + stateSize p) (d .apart) (a .apart) in
     record {
       is = λ keys f k s.
           let before = d .is keys f k s in
           let held =
           made p sound work work′ keys states e base base f few below a (keys-apart p sound work₀ work keys base (base + stateSize p) (d .apart)
           clear k) s (before .0) in
-          (last-made p sound work′ base e f held, side-lifted-more p f to e base work′ notes₀ notes notes′ held (before .1) n);
-      apart = apart-then work₀ work work′ base (base + stateSize p) (d .apart) (a .apart);
+          let kept = keys-apart p sound work₀ work′ keys base (base + stateSize p) both clear k in (
+            last-made p sound work′ base e f held,
+            side-lifted-more p (endedBy slack p keys f) to e slack base work′ notes₀ notes notes′
+                (ended-held p sound slack base e work′ keys f few held kept) (before .1) n,
+          );
+      apart = both;
     }

@@ -7,12 +7,11 @@ use mathlib.Core.Logic.{_⊎_, inl, inr, ⊎-elim}
 use native.Mathlib.Omega.{arith}
 use lib.ListN.{getD}
 use Rattle.basics.proofs.Numbers.{le-or-lt}
-use Rattle.plans.specs.Plans.{Sound, rowLo, rowHi, rowsIn, rowSize, stateSize}
+use Rattle.plans.specs.Plans.{Sound, rowLo, rowHi, rowAt, rowsIn, rowSize}
 use Rattle.states.specs.States.{Holds}
 use Rattle.plans.specs.declared.plan.Plan.{Plan}
-use Rattle.plans.proofs.PlanSizes.{part-fits}
-use Rattle.states.proofs.SizeLaws.{row-within}
 use Rattle.tracing.specs.Following.{Tells, storedAt, Picked, RowsFrom, OfSteps, JustBefore, TapTo, StepTo}
+use Rattle.tracing.specs.Endings.{endedAt, endedIn}
 use Rattle.tracing.specs.declared.follow.Stand.{Stand}
 
 -- ---- one pixel is picked, or none
@@ -36,48 +35,55 @@ picked-among A B f p j t r there back d =
       found = λ e m x b h. d .found e m x (back e m x (h .row) b) h;
     }
 
+-- by the same numbers, said otherwise
+pub picked-same :
+    (Among : ℕ → ℕ → ℕ → Type 0) (f g : ℕ → ℕ → ℕ → ℕ → ℕ) (p : Plan) (j t : ℕ) (r : Stand) →
+    ((e m x : ℕ) → m < rowsIn p e → rowLo p e m ≤ x → x < rowHi p e m → Among e m x → f e m j x ≡ g e m j x) →
+    Picked Among f p j t r → Picked Among g p j t r
+picked-same Among f g p j t r same d =
+    record {
+      is-gaps = d .is-gaps;
+      fits = λ h.
+          let k = d .fits h in
+          let c = k .1 in
+          (k .0, record { row = c .row; low = c .low; high = c .high; counts = omega (arith, c .counts, same _ _ _ (c .row) (c .low) (c .high) (k .0)) });
+      found = λ e m x a h.
+          d .found e m x a (record { row = h .row; low = h .low; high = h .high; counts = omega (arith, h .counts, same e m x (h .row) (h .low) (h .high) a) });
+    }
+
 -- the numbers of a state that the buffer holds
-module _ (work : List ℕ) (base : ℕ) (p : Plan) (f : ℕ → ℕ → ℕ → ℕ → ℕ) (j t : ℕ) (few : j < p .planes) where
-  stored-tells : (e m x : ℕ) → Holds work base p e (f e) → Tells (storedAt work base p) p j t e m x → Tells f p j t e m x
-  stored-tells e m x held h =
-      record { row = h .row; low = h .low; high = h .high; counts = omega (arith, h .counts, held .is m j x (h .row) few (h .low) (h .high)) }
-
-  tells-stored : (e m x : ℕ) → Holds work base p e (f e) → Tells f p j t e m x → Tells (storedAt work base p) p j t e m x
-  tells-stored e m x held h =
-      record { row = h .row; low = h .low; high = h .high; counts = omega (arith, h .counts, held .is m j x (h .row) few (h .low) (h .high)) }
-
-  pub picked-held :
-      (Among : ℕ → ℕ → ℕ → Type 0) (r : Stand) →
-      ((e m x : ℕ) → m < rowsIn p e → rowLo p e m ≤ x → x < rowHi p e m → Among e m x → Holds work base p e (f e)) →
-      Picked Among (storedAt work base p) p j t r → Picked Among f p j t r
-  picked-held Among r held d =
-      record {
-        is-gaps = d .is-gaps;
-        fits = λ h. let k = d .fits h in (k .0, stored-tells _ _ _ (held _ _ _ (k .1 .row) (k .1 .low) (k .1 .high) (k .0)) (k .1));
-        found = λ e m x a h. d .found e m x a (tells-stored e m x (held e m x (h .row) (h .low) (h .high) a) h);
-      }
+pub picked-held :
+    (work : List ℕ) (base : ℕ) (p : Plan) (f : ℕ → ℕ → ℕ → ℕ → ℕ) (j t : ℕ) → j < p .planes → (Among : ℕ → ℕ → ℕ → Type 0) (r : Stand) →
+    ((e m x : ℕ) → m < rowsIn p e → rowLo p e m ≤ x → x < rowHi p e m → Among e m x → Holds work base p e (f e)) →
+    Picked Among (storedAt work base p) p j t r → Picked Among f p j t r
+picked-held work base p f j t few Among r held =
+    picked-same Among (storedAt work base p) f p j t r (λ e m x row low high a. held e m x row low high a .is m j x row few low high)
 
 -- ---- row after row
 
 less-or-more : (n m : ℕ) → (n < m) ⊎ (m ≤ n)
 less-or-more n m = ⊎-elim (λ l. inr l) (λ l. inl l) (le-or-lt m n)
 
-module _ (work : List ℕ) (base : ℕ) (p : Plan) (state j t : ℕ) where
-  -- the rows from `first` below `row` have no such pixel
+module _ (work : List ℕ) (slack base : ℕ) (p : Plan) (state j t : ℕ) where
+  -- the rows from `first` below `row` have no pixel where a walk may end
   pub record Missed (first row : ℕ) : Type 0 where
-    pub none : (m x : ℕ) → first ≤ m → m < row → Tells (storedAt work base p) p j t state m x → ⊥
+    pub none : (m x : ℕ) → first ≤ m → m < row → Tells (endedIn work slack base p) p j t state m x → ⊥
 
   pub missed-none : (first : ℕ) → Missed first first
   missed-none first = record { none = λ m x h l d. omega arith }
 
-  module _ (m lo hi at : ℕ) (is-lo : lo ≡ rowLo p state m) (is-hi : hi ≡ rowHi p state m) (is-at : at ≡ base + m * rowSize p + j * p .across + lo) where
-    -- the place where the code reads
-    read-place : (x k : ℕ) → x ≡ lo + k → getD work (at + k) 0 ≡ storedAt work base p state m j x
+  module _ (m lo hi at key keys : ℕ) (is-lo : lo ≡ rowLo p state m) (is-hi : hi ≡ rowHi p state m) (is-key : key ≡ rowAt p state m)
+      (is-at : at ≡ base + m * rowSize p + j * p .across + lo) (is-keys : keys ≡ key + lo) where
+    -- the places where the code reads
+    read-place : (x k : ℕ) → x ≡ lo + k → endedAt work slack (keys + k) (at + k) ≡ endedIn work slack base p state m j x
     read-place x k e =
-        let same : at + k ≡ base + (m * rowSize p + (j * p .across + x)) = omega arith in ap (λ (i : ℕ). getD work i 0) same
+        let same : at + k ≡ base + (m * rowSize p + (j * p .across + x)) = omega arith in
+        let beside : keys + k ≡ rowAt p state m + x = omega arith in
+        rw (same, beside)
 
     pub missed-more :
-        (first next r : ℕ) → next ≡ m + 1 → Missed first m → hi - lo ≤ r → ((k : ℕ) → k < r → getD work (at + k) 0 < t) → Missed first next
+        (first next r : ℕ) → next ≡ m + 1 → Missed first m → hi - lo ≤ r → ((k : ℕ) → k < r → endedAt work slack (keys + k) (at + k) < t) →
+        Missed first next
     missed-more first next r e d all low =
         record {
           none = λ n x h l k.
@@ -85,25 +91,27 @@ module _ (work : List ℕ) (base : ℕ) (p : Plan) (state j t : ℕ) where
               (λ a. d .none n x h a k)
               (λ a.
               let same : n ≡ m = omega arith in
-              let told : Tells (storedAt work base p) p j t state m x = rw same at k in
-              omega (arith, told .counts, told .low, told .high, low (x - lo) (omega (arith, told .low, told .high)), read-place x (x - lo) (omega (arith, told .low))))
+              let told : Tells (endedIn work slack base p) p j t state m x = rw same at k in
+              let here : endedIn work slack base p state m j x < t =
+              rw (read-place x (x - lo) (let e : x ≡ lo + (x - lo) = omega (arith, told .low) in e)) at (low (x - lo) (omega (arith, told .low, told .high))) in
+              omega (arith, told .counts, here))
               (less-or-more n m);
         }
 
     pub row-picked :
         (first past k : ℕ) (r : Stand) → r .state ≡ state → r .row ≡ m → r .pixel ≡ lo + k → r .gaps ≡ j → first ≤ m → m < past → m < rowsIn p state →
-        hi ≤ p .across → k < hi - lo → t ≤ getD work (at + k) 0 → Picked (RowsFrom state first past) (storedAt work base p) p j t r
+        hi ≤ p .across → k < hi - lo → t ≤ endedAt work slack (keys + k) (at + k) → Picked (RowsFrom state first past) (endedIn work slack base p) p j t r
     row-picked first past k r es em ex eg h l row wide within high =
-        picked-one (RowsFrom state first past) (storedAt work base p) p j t r eg (omega arith) (es, omega arith, omega arith)
+        picked-one (RowsFrom state first past) (endedIn work slack base p) p j t r eg (omega arith) (es, omega arith, omega arith)
         (rw (es, em, ex)
-        (record { row = row; low = omega arith; high = omega arith; counts = omega (arith, read-place (lo + k) k refl) }))
+        (record { row = row; low = omega arith; high = omega arith; counts = rw (read-place (lo + k) k refl) at high }))
 
   pub missed-picked :
       (first past row : ℕ) (r : Stand) → past ≤ row → Missed first row → p .across ≤ r .pixel → r .gaps ≡ j →
-      Picked (RowsFrom state first past) (storedAt work base p) p j t r
+      Picked (RowsFrom state first past) (endedIn work slack base p) p j t r
   missed-picked first past row r l d off eg =
-      picked-none (RowsFrom state first past) (storedAt work base p) p j t r eg off
-      (λ e m x a h. d .none m x (a .1) (omega (arith, a .2)) (subst (λ (k : ℕ). Tells (storedAt work base p) p j t k m x) (a .0) h))
+      picked-none (RowsFrom state first past) (endedIn work slack base p) p j t r eg off
+      (λ e m x a h. d .none m x (a .1) (omega (arith, a .2)) (subst (λ (k : ℕ). Tells (endedIn work slack base p) p j t k m x) (a .0) h))
 
 -- the walks of so many steps
 module _ (f : ℕ → ℕ → ℕ → ℕ → ℕ) (p : Plan) (n j t : ℕ) (r : Stand) where

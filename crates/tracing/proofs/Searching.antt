@@ -18,7 +18,7 @@ use Rattle.tracing.specs.Finding.{Noted, sharedAt, termAt, Possible, Fro
 use Rattle.tracing.specs.declared.find.Found.{Found}
 use Rattle.tracing.specs.declared.find.Notes.{Notes}
 use Rattle.theory.specs.Walks.{back, around}
-use Rattle.theory.specs.Ranks.{rank, stepsLeft}
+use Rattle.theory.specs.Ranks.{rank}
 use Rattle.theory.specs.BestWalks.{bestWalk, term}
 use Rattle.tracing.proofs.Rooms.{rank-below}
 
@@ -96,7 +96,7 @@ module _ (terms : ℕ → ℕ → ℕ) (steps gaps spare rank index : ℕ) (old 
 
 -- ---- what the notes say
 
-module _ (W H m k spare : ℕ) (g : ℕ → ℕ) (x index : ℕ) (listed : index < 4) (on : x < W * H) (long : span W H (2 ^ index) ≡ m + spare + 1) where
+module _ (slack W H m k spare : ℕ) (g : ℕ → ℕ) (x index : ℕ) (listed : index < 4) (on : x < W * H) (long : span W H (2 ^ index) ≡ m + spare + 1) where
   abbrev bit : ℕ
   bit = 2 ^ index
 
@@ -107,15 +107,15 @@ module _ (W H m k spare : ℕ) (g : ℕ → ℕ) (x index : ℕ) (listed : index
   S b = side W H bit (bit-listed index listed) b
 
   -- a number of steps that no path can have there
-  too-many : (l i : ℕ) → place < l → bestWalk (back W H bit) g l i x ≡ 0
+  too-many : (l i : ℕ) → place < l → bestWalk slack (back W H bit) g l i x ≡ 0
   unfolding around
-  too-many l i h = reach-none (back W H bit) g l i x (λ ps w. omega (arith, S true .fits on w))
+  too-many l i h = reach-none slack (back W H bit) g l i x (λ ps w. omega (arith, S true .fits on w))
 
-  too-few : (l i : ℕ) → l ≤ m → l + spare < place → bestWalk (next W H bit) g (m - l) (k - i) x ≡ 0
+  too-few : (l i : ℕ) → l ≤ m → l + spare < place → bestWalk slack (next W H bit) g (m - l) (k - i) x ≡ 0
   unfolding around
-  too-few l i u h = reach-none (next W H bit) g (m - l) (k - i) x (λ ps w. omega (arith, S false .fits on w, rank-below W H x index listed on))
+  too-few l i u h = reach-none slack (next W H bit) g (m - l) (k - i) x (λ ps w. omega (arith, S false .fits on w, rank-below W H x index listed on))
 
-  term-none : (l i : ℕ) → l ≤ m → (Possible m spare place l → ⊥) → term W H bit m k g x l i ≡ 0
+  term-none : (l i : ℕ) → l ≤ m → (Possible m spare place l → ⊥) → term slack W H bit m k g x l i ≡ 0
   term-none l i u n =
       ⊎-elim
       (λ a. ⊎-elim
@@ -126,16 +126,16 @@ module _ (W H m k spare : ℕ) (g : ℕ → ℕ) (x index : ℕ) (listed : index
       (le-or-lt l place)
 
   module _ (work : List ℕ) (n : Notes) (own : ℕ) (is-steps : n .steps ≡ m) (is-gaps : n .gaps ≡ k) (is-own : own ≡ g x)
-      (ends : Noted (λ (q : ℕ). getD work (n .ends + q) 0) W H bit true g k m x)
-      (goes : Noted (λ (q : ℕ). getD work (n .goes + q) 0) W H bit false g k m x) where
-    term-is : (l i : ℕ) → Possible m spare place l → i ≤ k → termAt work n own l i ≡ min (g x) (term W H bit m k g x l i)
+      (ends : Noted slack (λ (q : ℕ). getD work (n .ends + q) 0) W H bit true g k m x)
+      (goes : Noted slack (λ (q : ℕ). getD work (n .goes + q) 0) W H bit false g k m x) where
+    term-is : (l i : ℕ) → Possible m spare place l → i ≤ k → termAt work n own l i ≡ min (g x) (term slack W H bit m k g x l i)
     unfolding sharedAt around
     term-is l i p u =
         let e = ends .is l i (p .of-path) u in
         let f = goes .is (m - l) (k - i) (omega arith) (omega arith) in
         rw (is-steps, is-gaps, is-own, add-assoc (n .ends) (l * (k + 1)) i, add-assoc (n .goes) ((m - l) * (k + 1)) (k - i), e, f)
 
-    found-attained : (new : Found) → FromNotes (termAt work n own) m k spare place index new → Attained W H m k spare g x bit (new .key) (new .before) (new .gaps)
+    found-attained : (new : Found) → FromNotes (termAt work n own) m k spare place index new → Attained slack W H m k spare g x bit (new .key) (new .before) (new .gaps)
     unfolding around
     found-attained new f =
         let p = f .possible in
@@ -156,7 +156,7 @@ module _ (W H m k spare : ℕ) (g : ℕ → ℕ) (x index : ℕ) (listed : index
 
     none-better :
         (old new : Found) → Searched (termAt work n own) m k spare place index (m + 1) old new → (l i : ℕ) → l ≤ m → i ≤ k →
-        min (g x) (term W H bit m k g x l i) ≤ new .key
+        min (g x) (term slack W H bit m k g x l i) ≤ new .key
     none-better old new d l i u v =
         ⊎-elim
         (λ a. ⊎-elim
@@ -167,7 +167,7 @@ module _ (W H m k spare : ℕ) (g : ℕ → ℕ) (x index : ℕ) (listed : index
         (λ a. omega (arith, term-none l i u (λ p. omega (arith, p .behind))))
         (le-or-lt l place)
 
-    pub searched-found : (old new : Found) → Searched (termAt work n own) m k spare place index (m + 1) old new → FoundIn W H m k spare g x index old new
+    pub searched-found : (old new : Found) → Searched (termAt work n own) m k spare place index (m + 1) old new → FoundIn slack W H m k spare g x index old new
     searched-found old new d =
         record {
           not-below = d .not-below;
@@ -176,7 +176,7 @@ module _ (W H m k spare : ℕ) (g : ℕ → ℕ) (x index : ℕ) (listed : index
         }
 
   -- a path that counts at the lowest key: there is one wherever it has room
-  pub lowest-attained : (l : ℕ) → l ≡ min place m → Attained W H m k spare g x bit 0 l 0
+  pub lowest-attained : (l : ℕ) → l ≡ min place m → Attained slack W H m k spare g x bit 0 l 0
   lowest-attained l e =
       let r = rank-below W H x index listed on in
       record {

@@ -1,7 +1,7 @@
 -- What the notes of a side tell. Every walk from x that counts is found at its last pixel, which has a row of the plan or counts for nothing; so the
--- highest number of l steps is what the recursion says of x.
+-- highest number of l steps, each no higher than a path may end at its pixel, is what the recursion says of x.
 use Prim.Native.Nat.{ℕ, _+_, _*_, _≤_, _<_}
-use mathlib.Core.Path.{_≡_, ap, subst, _∙_}
+use mathlib.Core.Path.{_≡_, sym, ap, subst, _∙_}
 use mathlib.Core.Bool.{Bool}
 use mathlib.Core.List.{List}
 use mathlib.Core.Logic.{_⊎_, inl, inr, ⊎-elim}
@@ -10,11 +10,11 @@ use native.Mathlib.Omega.{arith}
 use lib.ListN.{getD}
 use lib.IntN.{ℤ}
 use Rattle.basics.proofs.Numbers.{le-or-lt, rows-fit}
-use Rattle.theory.proofs.Towards.{towards, towards-best}
+use Rattle.theory.proofs.Towards.{towards-best}
 use Rattle.frames.specs.Frames.{placeIn}
 use Rattle.states.specs.Runs.{Between, Apart}
 use Rattle.plans.specs.Plans.{lineAt}
-use Rattle.directions.specs.Numbers.{numberAt, stepsAt, pixelIn}
+use Rattle.directions.specs.Numbers.{stepsAt, pixelIn}
 use Rattle.directions.proofs.TraceRows.{HasRow}
 use Rattle.tracing.specs.Scans.{Sound, bitOf, keyOf}
 use Rattle.tracing.specs.Sights.{Seen, seenAt}
@@ -25,7 +25,9 @@ use Rattle.directions.specs.declared.sight.Sight.{Sight}
 use Rattle.theory.specs.Modes.{Levels}
 use Rattle.tracing.proofs.Modes.{keys-bounded}
 use Rattle.tracing.proofs.Noting.{FromSide}
+use Rattle.tracing.proofs.Endings.{endedBy}
 use Rattle.tracing.proofs.Sighting.{sight-planes, sight-steps-few, sight-rows}
+use Rattle.tracing.proofs.SeenLaws.{sideKeys, toPixel, seen-ended}
 
 -- a number and a smaller one beside its multiple are known by their sum
 pub digits-same : (w a b i j : ℕ) → i < w → j < w → a * w + i ≡ b * w + j → (a ≡ b) × (i ≡ j)
@@ -53,21 +55,22 @@ module _ (s : Scan) (sound : Sound s) (backwards : Bool) (x : ℕ) (r : Sight) (
 
   module _ (plate : List ℤ) (levels : Levels plate) (on : x < s .width * s .height) (to : ℕ) (old mid new : List ℕ)
       (zeros : Between (λ (q : ℕ). 0) old mid to (to + (s .steps + 1) * (s .setting .gaps + 1)))
-      (d : Lifted (FromSide (r .plan) (seenAt s backwards plate x r) to (r .states)) mid new) where
+      (d : Lifted (FromSide (r .plan) (endedBy (s .slack) (r .plan) (sideKeys s sound backwards x r seen plate levels) (seenAt s backwards plate x r)) to (r .states)) mid new) where
     abbrev best : ℕ → ℕ → ℕ → ℕ
-    best l j q = towards backwards (s .width) (s .height) (bitOf s) (keyOf s plate) x l j q
+    best l j q = toPixel s sound backwards x r seen plate levels l j q
+
+    abbrev numbers : ℕ → ℕ → ℕ → ℕ → ℕ
+    numbers = endedBy (s .slack) (r .plan) (sideKeys s sound backwards x r seen plate levels) (seenAt s backwards plate x r)
 
     abbrev From : ℕ → ℕ → Type 0
-    From q v = FromSide (r .plan) (seenAt s backwards plate x r) to (r .states) q v
+    From q v = FromSide (r .plan) numbers to (r .states) q v
 
     abbrev noteOf : ℕ → ℕ → ℕ
     noteOf l j = to + (l * planes + j)
 
-    -- the number of a pixel is that of its row
-    seen-is : (l j i z : ℕ) (h : HasRow (r .frame) (r .plan) (r .states) l i z) → best l j (placeIn (r .frame) i z) ≡ seenAt s backwards plate x r
-        (h .state) (h .row) j z
-    unfolding numberAt
-    seen-is l j i z h = rw (h .steps, h .place)
+    -- what is noted of a pixel is the number of its row
+    seen-is : (l j i z : ℕ) (h : HasRow (r .frame) (r .plan) (r .states) l i z) → best l j (placeIn (r .frame) i z) ≡ numbers (h .state) (h .row) j z
+    seen-is l j i z h = sym (rw (h .steps, h .place) at (seen-ended s sound backwards x r seen plate levels (h .state) (h .row) j z (h .row-below) (h .low) (h .high)))
 
     from-row : (l j i z : ℕ) → j ≤ s .setting .gaps → HasRow (r .frame) (r .plan) (r .states) l i z → From (noteOf l j) (best l j (placeIn (r .frame) i z))
     from-row l j i z hj h =
@@ -100,14 +103,15 @@ module _ (s : Scan) (sound : Sound s) (backwards : Bool) (x : ℕ) (r : Sight) (
 
     -- and a note comes from a row of its steps and gaps
     from-note : (l j v : ℕ) → j ≤ s .setting .gaps → From (noteOf l j) v → (q : ℕ) × (v ≡ best l j q)
-    unfolding numberAt
     from-note l j v hj f =
         let n = f .number .number in
         let st = stepsAt (r .plan) (f .state) (f .number .row) in
         let here = rw (sight-planes s sound backwards x r seen) at (n .at) in
         let few = rw (sight-planes s sound backwards x r seen) at (n .plane-below) in
-        let same = digits-same planes st l (n .plane) j few (omega arith) (omega (arith, here)) in
-        (pixelIn (r .frame) (r .plan .ranked) (lineAt (r .plan) (f .state) (f .number .row)) (n .pixel), rw (same .0, same .1) at (n .is))
+        let same = digits-same planes st l (n .plane) j few (omega arith) (omega (arith, here)) in (
+          pixelIn (r .frame) (r .plan .ranked) (lineAt (r .plan) (f .state) (f .number .row)) (n .pixel),
+          rw (same .0, same .1) at (n .is ∙ seen-ended s sound backwards x r seen plate levels (f .state) (f .number .row) (n .plane) (n .pixel) (f .number .row-below) (n .low) (n .high)),
+        )
 
     least : (l j : ℕ) → l ≤ s .steps → j ≤ s .setting .gaps → (getD new (noteOf l j) 0 ≡ 0) ⊎ ((q : ℕ) × (getD new (noteOf l j) 0 ≡ best l j q))
     least l j hl hj =
@@ -116,11 +120,12 @@ module _ (s : Scan) (sound : Sound s) (backwards : Bool) (x : ℕ) (r : Sight) (
         (λ f. inr (from-note l j (getD new (noteOf l j) 0) hj f))
         (d .source (noteOf l j))
 
-    pub side-noted : Noted (cells new to) (s .width) (s .height) (bitOf s) backwards (keyOf s plate) (s .setting .gaps) (s .steps) x
+    pub side-noted : Noted (s .slack) (cells new to) (s .width) (s .height) (bitOf s) backwards (keyOf s plate) (s .setting .gaps) (s .steps) x
     side-noted =
         record {
           is = λ l j hl hj.
-              towards-best backwards (s .width) (s .height) (bitOf s) (keyOf s plate) (keys-bounded s plate levels) x l j on (getD new (noteOf l j) 0)
+              towards-best (s .slack) backwards (s .width) (s .height) (bitOf s) (keyOf s plate) (keys-bounded s plate levels) x l j (sound .few-slack) on
+              (getD new (noteOf l j) 0)
               (λ q hq. upper l j q hl hj hq) (least l j hl hj);
         }
 
@@ -150,9 +155,9 @@ notes-small steps gaps h k = mul-le-mul {n₁ = steps + 1} {m₁ = gaps + 1} {n�
 
 -- a change after them leaves the notes alone
 pub noted-apart :
-    (W H bit : ℕ) (backwards : Bool) (g : ℕ → ℕ) (k m x at lo hi : ℕ) (old new : List ℕ) → Apart old new lo hi → at + (m + 1) * (k + 1) ≤ lo →
-    Noted (cells old at) W H bit backwards g k m x → Noted (cells new at) W H bit backwards g k m x
-noted-apart W H bit backwards g k m x at lo hi old new a h noted =
+    (slack W H bit : ℕ) (backwards : Bool) (g : ℕ → ℕ) (k m x at lo hi : ℕ) (old new : List ℕ) → Apart old new lo hi → at + (m + 1) * (k + 1) ≤ lo →
+    Noted slack (cells old at) W H bit backwards g k m x → Noted slack (cells new at) W H bit backwards g k m x
+noted-apart slack W H bit backwards g k m x at lo hi old new a h noted =
     record {
       is = λ l j hl hj.
           a .under (at + (l * (k + 1) + j)) (omega (arith, rows-fit l 1 (m + 1) (k + 1) (omega arith))) ∙ noted .is l j hl hj;

@@ -29,7 +29,7 @@ use Rattle.directions.proofs.TraceLaws.{spot-known}
 use Rattle.directions.proofs.KeptLaws.{kept-line, kept-rank, inside-line, inside-rank}
 use Rattle.directions.proofs.TraceRows.{HasRow, trace-rows}
 use Rattle.directions.proofs.RoomLaws.{Roomy}
-use Rattle.directions.proofs.TracePlans.{trace-planes, trace-lines, trace-across, trace-ranked, trace-states-few, trace-steps-few, trace-formed, trace-room, trace-sequence}
+use Rattle.directions.proofs.TracePlans.{trace-planes, trace-slack, trace-lines, trace-across, trace-ranked, trace-states-few, trace-steps-few, trace-formed, trace-room, trace-sequence}
 use Rattle.tracing.specs.Scans.{Sound, bitOf, keyOf}
 use Rattle.tracing.specs.Sights.{Seen, seenAt}
 use Rattle.tracing.specs.declared.scan.Scan.{Scan}
@@ -81,6 +81,11 @@ module _ (s : Scan) (sound : Sound s) (backwards : Bool) (x : ℕ) (r : Sight) (
 
   pub sight-across : r .plan .across ≡ r .frame .across
   sight-across = rw (seen .is-plan) (trace-across (r .frame) rows back (s .steps + 1) (s .setting .gaps + 1) (seen .spot))
+
+  -- the walks start at the picked pixel, which may be a gap
+  pub sight-slack : r .plan .slack ≡ 65535
+  sight-slack =
+      ap (λ (p : Plan). p .slack) (seen .is-plan) ∙ trace-slack (r .frame) rows back (s .steps + 1) (s .setting .gaps + 1) (seen .spot)
 
   pub sight-keys-size : keysSize (r .plan) ≡ r .frame .lines * r .frame .across
   sight-keys-size = rw (sight-lines, sight-across)

@@ -1,35 +1,33 @@
 -- A walk that counts, followed from its far end. The states of the side are fetched from the stack, each in turn the last one; the far end is a pixel
 -- where the walks of all steps count, which there is because the walks from the picked pixel do; and at each turn the trail is written a step nearer.
 use Prim.Native.Nat.{ℕ, zero, suc, _+_, _-_, _*_, _≤_, _<_}
-use mathlib.Core.Path.{_≡_, refl, sym, ap, subst, _∙_}
-use mathlib.Core.Bool.{Bool, true, false, cond, true≢false}
+use mathlib.Core.Path.{_≡_, refl, sym, ap, _∙_}
+use mathlib.Core.Bool.{Bool, true, false, cond}
 use mathlib.Core.List.{List}
 use native.Mathlib.Omega.{arith}
 use lib.ListN.{length, getD, set}
 use lib.IntN.{ℤ}
 use Rattle.basics.proofs.Numbers.{rows-fit}
-use Rattle.theory.proofs.Towards.{towards-find}
-use Rattle.plans.specs.Plans.{rowsIn, stateSize, keysSize}
+use Rattle.plans.specs.Plans.{stateSize, keysSize}
 use Rattle.states.specs.States.{Holds}
 use Rattle.sweeps.specs.Stacks.{Sequence, Stacked, StackFits, Fetched, lastMark}
 use Rattle.plans.specs.declared.plan.Plan.{Plan}
 use Rattle.sweeps.specs.declared.stack.Stack.{Stack}
 use Rattle.directions.specs.Doors.{Laid}
-use Rattle.directions.specs.Numbers.{numberAt, placeKept}
+use Rattle.directions.specs.Numbers.{placeKept}
 use Rattle.directions.proofs.RoomLaws.{Roomy}
 use Rattle.tracing.specs.Scans.{Sound, bitOf, keyOf}
 use Rattle.tracing.specs.Sights.{Seen, seenAt}
-use Rattle.tracing.specs.Following.{Leads, Within, Trail, indexAfter, lowAlong, Tells, storedAt, Picked, OfSteps, StepTo, Stands, Kept}
+use Rattle.tracing.specs.Following.{Within, Trail, indexAfter, lowAlong, storedAt, Picked, StepTo, Stands, Kept}
 use Rattle.tracing.specs.declared.follow.Stand.{Stand}
 use Rattle.tracing.specs.declared.scan.Scan.{Scan}
 use Rattle.directions.specs.declared.sight.Sight.{Sight}
 use Rattle.theory.specs.BestWalks.{under}
+use Rattle.tracing.specs.Endings.{EndsAt}
 use Rattle.theory.specs.Modes.{Levels}
-use Rattle.tracing.proofs.Inward.{Inward, inward-nearer, inward-trail, inward-few}
+use Rattle.tracing.proofs.Inward.{Inward, inward-nearer, inward-trail, inward-few, inward-end}
 use Rattle.tracing.proofs.Picking.{picked-held}
-use Rattle.tracing.proofs.Modes.{keys-bounded}
 use Rattle.tracing.proofs.Sighting.{sight-planes, sight-keys, sight-sequence}
-use Rattle.tracing.proofs.SeenLaws.{seen-first, seen-row}
 use Rattle.tracing.proofs.Nearing.{placeOf, withGaps, stand-picked, step-wanted, gap-left, nearer-stands, nearer-place}
 
 -- ---- the stack
@@ -121,88 +119,6 @@ module _ (s : Scan) (b : Bool) (plate : List ℤ) (x : ℕ) (r : Sight) (sound :
             fetched .apart .len,
           )
 
-  -- ---- the far end
-
-  wanted-at : (ranked : Bool) (n e m : ℕ) → (ranked ≡ false → e ≡ 0) → cond ranked e m ≡ n → e ≡ cond ranked (n + 1) 1 - 1
-  wanted-at true n e m first h = omega arith
-  wanted-at false n e m first h = first refl
-
-  wanted-few : (ranked : Bool) (n e m : ℕ) → e < r .states → cond ranked e m ≡ n → cond ranked (n + 1) 1 ≤ r .states
-  wanted-few true n e m h k = omega arith
-  wanted-few false n e m h k = omega arith
-
-  line-steps : (ranked : Bool) (e m : ℕ) → {n : ℕ} → ranked ≡ false → cond ranked e m ≡ n → m ≡ n
-  line-steps true e m k h = absurd (true≢false k)
-  line-steps false e m k h = h
-
-  pub wanted-some : (ranked : Bool) (n : ℕ) → 1 ≤ cond ranked (n + 1) 1
-  wanted-some true n = omega arith
-  wanted-some false n = omega arith
-
-  module _ (levels : Levels plate) (t n j : ℕ) (positive : 1 ≤ t) (short : n ≤ s .steps) (few : j ≤ s .setting .gaps)
-      (leads : Leads (s .width) (s .height) (bitOf s) b (keyOf s plate) t (s .spare) n j x) where
-    -- there is one
-    pub record End : Type 0 where
-      pub state : ℕ
-      pub row : ℕ
-      pub pixel : ℕ
-      pub below : state < r .states
-      pub steps : OfSteps (r .plan) n state row pixel
-      pub tells : Tells (seenAt s b plate x r) (r .plan) j t state row pixel
-
-    pub some-end : End
-    unfolding numberAt
-    some-end =
-        let q = towards-find b (s .width) (s .height) (bitOf s) (keyOf s plate) (keys-bounded s plate levels) x n j (leads .on) t positive (leads .counts) in
-        let h = seen-row s sound b x r view (keyOf s plate) n j (q .0) short (q .1) (omega (arith, q .2)) in
-        let c = h .3 in
-        record {
-          state = c .state;
-          row = c .row;
-          pixel = h .1;
-          below = c .state-below;
-          steps = (c .steps, λ k. seen-first s sound b x r view (c .state) (c .state-below) k);
-          tells =
-              record {
-                row = c .row-below;
-                low = c .low;
-                high = c .high;
-                counts =
-                    rw (c .steps, c .place, h .2) (q .2);
-              };
-        }
-
-    pub end-few : cond (r .plan .ranked) (n + 1) 1 ≤ r .states
-    end-few = wanted-few (r .plan .ranked) n (some-end .state) (some-end .row) (some-end .below) (some-end .steps .0)
-
-    pub end-row : r .plan .ranked ≡ false → n < rowsIn (r .plan) 0
-    end-row k =
-        let c = some-end in
-        let m= : c .row ≡ n = line-steps (r .plan .ranked) (c .state) (c .row) k (c .steps .0) in
-        let e= : c .state ≡ 0 = c .steps .1 k in
-        omega (arith, m=, subst (λ (e : ℕ). c .row < rowsIn (r .plan) e) e= (c .tells .row))
-
-    -- what is picked
-    pub end-stands :
-        (work : List ℕ) (top want : ℕ) (end : Stand) → want ≡ cond (r .plan .ranked) (n + 1) 1 →
-        Holds work top (r .plan) (want - 1) (seenAt s b plate x r (want - 1)) →
-        Picked (OfSteps (r .plan) n) (storedAt work top (r .plan)) (r .plan) j t end → Stands s b plate x r t n end
-    end-stands work top want end is-want held picked =
-        let c = some-end in
-        let p =
-        picked-held work top (r .plan) (seenAt s b plate x r) j t (omega (arith, sight-planes s sound b x r view)) (OfSteps (r .plan) n) end
-        (λ e m z row low high a.
-        let e= : e ≡ want - 1 = wanted-at (r .plan .ranked) n e m (a .1) (a .0) ∙ ap (λ (k : ℕ). k - 1) (sym is-want) in rw e= held)
-        picked in
-        let f = p .fits (p .found (c .state) (c .row) (c .pixel) (c .steps) (c .tells)) in
-        let e= : end .state ≡ cond (r .plan .ranked) (n + 1) 1 - 1 = wanted-at (r .plan .ranked) n (end .state) (end .row) (f .0 .1) (f .0 .0) in
-        record {
-          state = omega (arith, e=, end-few, wanted-some (r .plan .ranked) n);
-          steps = f .0 .0;
-          gaps = omega (arith, p .is-gaps);
-          tells = rw (p .is-gaps) (f .1);
-        }
-
   -- ---- a step nearer
 
   nearer-some : (ranked : Bool) (e m k : ℕ) → cond ranked e m ≡ suc k → 1 ≤ cond ranked e 1
@@ -223,7 +139,7 @@ module _ (s : Scan) (b : Bool) (plate : List ℤ) (x : ℕ) (r : Sight) (sound :
     stand-some (suc n) d l = nearer-some (r .plan .ranked) (stand .state) (stand .row) n (d .steps)
 
     module _ (k : ℕ) (d : Stands s b plate x r t (suc k) stand) (h : suc k ≤ m)
-        (inward : Inward (s .width) (s .height) (bitOf s) b (keyOf s plate) t old start m gaps path (suc k) (placeOf r stand) (stand .gaps))
+        (inward : Inward (s .slack) (s .width) (s .height) (bitOf s) b (keyOf s plate) t old start m gaps path (suc k) (placeOf r stand) (stand .gaps))
         (left : ℕ) (is-left : left ≡ stand .gaps - under t (keyOf s plate (placeOf r stand))) (work : List ℕ) (top want : ℕ)
         (is-want : want ≡ cond (r .plan .ranked) (stand .state) 1)
         (held : Holds work top (r .plan) (want - 1) (seenAt s b plate x r (want - 1))) (to : Stand)
@@ -243,10 +159,10 @@ module _ (s : Scan) (b : Bool) (plate : List ℤ) (x : ℕ) (r : Sight) (sound :
 
       walk-inward :
           (i place : ℕ) → i ≡ indexAfter b start (suc k) → place ≡ placeOf r stand →
-          Inward (s .width) (s .height) (bitOf s) b (keyOf s plate) t old start m gaps (set path i place) k (placeOf r to) (to .gaps)
+          Inward (s .slack) (s .width) (s .height) (bitOf s) b (keyOf s plate) t old start m gaps (set path i place) k (placeOf r to) (to .gaps)
       walk-inward i place is-i is-place =
           rw (is-i, is-place)
-          (inward-nearer (s .width) (s .height) (bitOf s) b (keyOf s plate) t old start m gaps within path k (placeOf r stand) (stand .gaps)
+          (inward-nearer (s .slack) (s .width) (s .height) (bitOf s) b (keyOf s plate) t old start m gaps within path k (placeOf r stand) (stand .gaps)
           (placeOf r to) (to .gaps) h inward (nearer-place s b plate x r sound levels view t positive (suc k) stand d k refl left is-left to seen-picked)
           (omega (arith, seen-picked .is-gaps, gap-left s b plate x r sound levels view t positive (suc k) stand d k refl)))
 
@@ -257,13 +173,13 @@ module _ (s : Scan) (b : Bool) (plate : List ℤ) (x : ℕ) (r : Sight) (sound :
     -- the same with any number of steps left
     pub walk-on :
         (n : ℕ) → 0 < n → Stands s b plate x r t n stand → n ≤ m →
-        Inward (s .width) (s .height) (bitOf s) b (keyOf s plate) t old start m gaps path n (placeOf r stand) (stand .gaps) →
+        Inward (s .slack) (s .width) (s .height) (bitOf s) b (keyOf s plate) t old start m gaps path n (placeOf r stand) (stand .gaps) →
         (left : ℕ) → left ≡ stand .gaps - under t (keyOf s plate (placeOf r stand)) → (work : List ℕ) (top want : ℕ) →
         want ≡ cond (r .plan .ranked) (stand .state) 1 → Holds work top (r .plan) (want - 1) (seenAt s b plate x r (want - 1)) → (to : Stand) →
         Picked (StepTo (r .plan) (withGaps stand left)) (storedAt work top (r .plan)) (r .plan) left t to →
         (i place : ℕ) → i ≡ indexAfter b start n → place ≡ placeOf r stand →
         Stands s b plate x r t (n - 1) to
-        × Inward (s .width) (s .height) (bitOf s) b (keyOf s plate) t old start m gaps (set path i place) (n - 1) (placeOf r to) (to .gaps)
+        × Inward (s .slack) (s .width) (s .height) (bitOf s) b (keyOf s plate) t old start m gaps (set path i place) (n - 1) (placeOf r to) (to .gaps)
     walk-on zero l d h inward left is-left work top want is-want held to picked i place is-i is-place = absurd (omega arith)
     walk-on (suc k) l d h inward left is-left work top want is-want held to picked i place is-i is-place =
         let e : suc k - 1 ≡ k = omega arith in
@@ -275,12 +191,16 @@ module _ (s : Scan) (b : Bool) (plate : List ℤ) (x : ℕ) (r : Sight) (sound :
     -- ---- the picked pixel is come to
 
     module _ (n : ℕ) (none : n ≡ 0) (d : Stands s b plate x r t n stand) (picked : x ≡ getD old start 0)
-        (inward : Inward (s .width) (s .height) (bitOf s) b (keyOf s plate) t old start m gaps path n (placeOf r stand) (stand .gaps)) where
+        (inward : Inward (s .slack) (s .width) (s .height) (bitOf s) b (keyOf s plate) t old start m gaps path n (placeOf r stand) (stand .gaps)) where
       pub walk-ends :
-          Trail (s .width) (s .height) (bitOf s) b old path start m × (lowAlong b (keyOf s plate) t path start (m + 1) ≤ gaps)
+          Trail (s .width) (s .height) (bitOf s) b old path start m
+          × ((lowAlong b (keyOf s plate) t path start (m + 1) ≤ gaps) × EndsAt s plate t (getD path (indexAfter b start m) 0))
       walk-ends =
           let l = stand-picked s b plate x r sound levels view t positive n stand d none in
           let i = rw none at inward in (
-            inward-trail (s .width) (s .height) (bitOf s) b (keyOf s plate) t old start m gaps within path (placeOf r stand) (stand .gaps) i (l .0 ∙ picked),
-            inward-few (s .width) (s .height) (bitOf s) b (keyOf s plate) t old start m gaps within path (placeOf r stand) (stand .gaps) i (l .0 ∙ picked) (l .1),
+            inward-trail (s .slack) (s .width) (s .height) (bitOf s) b (keyOf s plate) t old start m gaps within path (placeOf r stand) (stand .gaps) i (l .0 ∙ picked),
+            (
+              inward-few (s .slack) (s .width) (s .height) (bitOf s) b (keyOf s plate) t old start m gaps within path (placeOf r stand) (stand .gaps) i (l .0 ∙ picked) (l .1),
+              inward-end (s .slack) (s .width) (s .height) (bitOf s) b (keyOf s plate) t old start m gaps within path (placeOf r stand) (stand .gaps) i (l .0 ∙ picked),
+            ),
           )

@@ -21,11 +21,11 @@ use Rattle.theory.specs.BestWalks.{bestWalk, lowFrom}
 use Rattle.theory.specs.Walks.{around}
 use Rattle.theory.specs.Ranks.{stepsLeft}
 
--- From p a walk of m steps leads on that has at most j pixels below t, and no more room than `spare` is left beside it: p stands where a path has
--- it that is so much shorter than the longest.
-pub record Leads (W H bit : ℕ) (backwards : Bool) (g : ℕ → ℕ) (t spare m j p : ℕ) : Type 0 where
+-- From p a walk of m steps leads on that has at most j pixels below t and may end where it does, and no more room than `spare` is left beside it: p
+-- stands where a path has it that is so much shorter than the longest.
+pub record Leads (slack W H bit : ℕ) (backwards : Bool) (g : ℕ → ℕ) (t spare m j p : ℕ) : Type 0 where
   pub on : p < W * H
-  pub counts : t ≤ bestWalk (around backwards W H bit) g m j p
+  pub counts : t ≤ bestWalk slack (around backwards W H bit) g m j p
   pub roomy : m ≤ stepsLeft W H bit backwards p
   pub near : stepsLeft W H bit backwards p ≤ m + spare
 

@@ -1,4 +1,5 @@
 pub mod Scans
+pub mod Endings
 pub mod Sights
 pub mod Headings
 pub mod Choosing

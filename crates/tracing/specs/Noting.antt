@@ -5,9 +5,10 @@ use mathlib.Core.Path.{_≡_}
 use mathlib.Core.List.{List}
 use mathlib.Core.Logic.{_⊎_}
 use lib.ListN.{length, getD}
-use Rattle.plans.specs.Plans.{rowsIn, rowLo, rowHi, rowSize}
+use Rattle.plans.specs.Plans.{rowsIn, rowLo, rowHi}
 use Rattle.plans.specs.declared.plan.Plan.{Plan}
 use Rattle.directions.specs.Numbers.{stepsAt}
+use Rattle.tracing.specs.Endings.{endedAt}
 
 -- r is the highest of v and of f at the places from lo below hi
 pub record Highest (f : ℕ → ℕ) (lo hi v r : ℕ) : Type 0 where
@@ -32,19 +33,15 @@ pub record FromRow (f : ℕ → ℕ → ℕ) (lo hi to planes q v : ℕ) : Type 
   pub at : q ≡ to + plane
   pub is : v ≡ f plane pixel
 
--- the numbers of a row that begins at a place of the work buffer
-abbrev pub rowCells : List ℕ → ℕ → ℕ → ℕ → ℕ → ℕ
-rowCells work at across j x = getD work (at + (j * across + x)) 0
+-- the numbers of a row that begins at a place of the work buffer, as walks that end there count for them; the row's keys stand at `keys`
+abbrev pub rowEnded : List ℕ → ℕ → ℕ → ℕ → ℕ → ℕ → ℕ → ℕ
+rowEnded work slack keys at across j x = endedAt work slack (keys + x) (at + (j * across + x))
 
 -- v is a number of one of the first rows of state e, which are noted by their steps
 pub record FromState (p : Plan) (f : ℕ → ℕ → ℕ → ℕ) (to e rows q v : ℕ) : Type 0 where
   pub row : ℕ
   pub row-below : row < rows
   pub number : FromRow (f row) (rowLo p e row) (rowHi p e row) (to + stepsAt p e row * p .planes) (p .planes) q v
-
--- the numbers of a state at a place of the work buffer
-abbrev pub stateCells : List ℕ → ℕ → Plan → ℕ → ℕ → ℕ → ℕ
-stateCells work base p m j x = getD work (base + (m * rowSize p + (j * p .across + x))) 0
 
 -- every row of state e has its notes in a list of this size
 pub record NotesFit (p : Plan) (e to size : ℕ) : Type 0 where

@@ -1,5 +1,5 @@
 -- One direction of a trace. These definitions serve contracts inside the engine only: no public contract cites them.
-use Prim.Native.Nat.{ℕ, _+_, _-_, _*_, _^_, _≤_, _<_}
+use Prim.Native.Nat.{ℕ, _+_, _-_, _^_, _≤_, _<_}
 use mathlib.Core.Path.{_≡_}
 use mathlib.Core.List.{List}
 use lib.IntN.{ℤ}
@@ -8,6 +8,7 @@ use Rattle.plate.specs.Paths.{span}
 use Rattle.plate.specs.Sizes.{GoodSize}
 use Rattle.plate.specs.declared.setting.Setting.{Setting}
 use Rattle.frames.specs.Keys.{keyBy}
+use Rattle.theory.specs.BestWalks.{gapEnd}
 use Rattle.tracing.specs.declared.scan.Scan.{Scan}
 
 -- the direction's bit
@@ -27,6 +28,7 @@ pub record Sound (s : Scan) : Type 0 where
   pub short : s .steps + s .spare < 2048
   pub few-steps : s .steps < 1024
   pub is-length : s .setting .length ≡ s .steps + 1
+  pub few-slack : s .slack ≤ 65535
 
 -- the scan of a direction, by its place in the table
 pub record ScanOf (r : Scan) (W H : ℕ) (s : Setting) (index : ℕ) : Type 0 where
@@ -35,3 +37,4 @@ pub record ScanOf (r : Scan) (W H : ℕ) (s : Setting) (index : ℕ) : Type 0 wh
   pub is-setting : r .setting ≡ s
   pub is-index : r .index ≡ index
   pub is-steps : r .steps ≡ s .length - 1
+  pub is-slack : r .slack ≡ gapEnd (s .ends)

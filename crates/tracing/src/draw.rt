@@ -23,8 +23,8 @@ pub(crate) fn draw(
     requires { ⌜ Sound scan ⌝ }
     requires { ⌜ (length (now plate) ≡ scan .width * scan .height) × (4 * (scan .setting .gaps + 1) * (scan .width * scan .height) ≤ length (now work)) × (length (now path) ≡ scan .steps + 1) ⌝ }
     requires { ⌜ Levels (now plate) ⌝ }
-    requires { ⌜ Attained (scan .width) (scan .height) (scan .steps) (scan .setting .gaps) (scan .spare) (keyOf scan (now plate)) x (bitOf scan) (found .key) (found .before) (found .gaps) ⌝ }
-    ensures { λ _. ⌜ Drawn (scan .width) (scan .height) (bitOf scan) (keyOf scan (now (plate .entry))) (found .key) (scan .steps) (scan .setting .gaps) x (now (path .exit)) ⌝ }
+    requires { ⌜ Attained (scan .slack) (scan .width) (scan .height) (scan .steps) (scan .setting .gaps) (scan .spare) (keyOf scan (now plate)) x (bitOf scan) (found .key) (found .before) (found .gaps) ⌝ }
+    ensures { λ _. ⌜ Drawn (scan .slack) (scan .width) (scan .height) (bitOf scan) (keyOf scan (now (plate .entry))) (found .key) (scan .steps) (scan .setting .gaps) x (now (path .exit)) ⌝ }
 {
     let start = found.before;
     path[start] = x;

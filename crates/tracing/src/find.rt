@@ -119,7 +119,7 @@ const GOES: usize = 9216;
 fn find_in(work: &mut [u16], plate: &[i16], scan: Scan, x: usize, found: Found) -> Found
     requires { ⌜ Sound scan ⌝ }
     requires { ⌜ (length (now plate) ≡ scan .width * scan .height) × (x < scan .width * scan .height) × (4 * (scan .setting .gaps + 1) * (scan .width * scan .height) ≤ length (now work)) ⌝ }
-    ensures { λ r. ⌜ FoundIn (scan .width) (scan .height) (scan .steps) (scan .setting .gaps) (scan .spare) (keyOf scan (now (plate .entry))) x (scan .index) found r ⌝ }
+    ensures { λ r. ⌜ FoundIn (scan .slack) (scan .width) (scan .height) (scan .steps) (scan .setting .gaps) (scan .spare) (keyOf scan (now (plate .entry))) x (scan .index) found r ⌝ }
     ensures { λ _. ⌜ Levels (now (plate .entry)) ⌝ }
 {
     let heading = Heading {

@@ -2,17 +2,19 @@
 // counts ends, step by step nearer to the picked one. A neighbour is taken whose number, with the gaps that
 // are left, is at least the level.
 ghost use mathlib.Core.Path.{_≡_};
-ghost use mathlib.Core.Bool.{true, false, cond};
-ghost use Prim.Native.Nat.{ℕ, _+_, _-_, _*_, _≤_, _<_, min};
+ghost use mathlib.Core.Bool.{true, cond};
+ghost use Prim.Native.Nat.{_+_, _-_, _*_, _≤_, _<_, min};
 ghost use lib.ListN.{length, getD};
 ghost use Rattle.tracing.specs.Scans.{Sound, bitOf, keyOf};
 ghost use Rattle.plans.specs.Plans.{Sound as PlanSound, rowsIn, rowAt, stateSize};
 ghost use Rattle.directions.specs.Numbers.{KeptOn, placeKept};
 ghost use Rattle.directions.specs.Doors.{frameOf};
+ghost use Rattle.tracing.specs.Endings.{EndsAt};
 ghost use Rattle.tracing.specs.Sights.{Seen};
-ghost use Rattle.tracing.specs.Following.{Leads, Within, Trail, indexAfter, lowAlong, storedAt, Picked, RowsFrom, OfSteps, JustBefore, TapTo, StepTo, OnRow, Stands, Kept, HeldFit};
+ghost use Rattle.tracing.specs.Following.{Leads, Within, Trail, indexAfter, lowAlong, storedAt, Picked, JustBefore, TapTo, StepTo, OnRow, Stands, Kept, HeldFit};
 ghost use Rattle.theory.specs.Modes.{Levels};
 ghost use Rattle.theory.specs.BestWalks.{under};
+use crate::far_end::find_end;
 use crate::onward::follow_any;
 use crate::scan::Scan;
 use crate::sight::lay_keys;
@@ -76,73 +78,6 @@ fn place_of(scan: Scan, sight: Sight, stand: Stand) -> usize
         sight.plan.ranked,
         row.at + stand.pixel,
     )
-}
-
-// The first of n numbers that is at least t, or n where none is.
-fn first_of(work: &[u16], at: usize, n: usize, t: u16) -> usize
-    requires { ⌜ at + n ≤ length (now work) ⌝ }
-    ensures { λ r. ⌜ (r ≤ n) × (r < n → t ≤ getD (now (work .entry)) (at + r) 0) × ((k : ℕ) → k < r → getD (now (work .entry)) (at + k) 0 < t) ⌝ }
-{
-    let mut x = 0;
-    while x < n {
-        if work[at + x] >= t {
-            return x;
-        }
-        x += 1;
-    }
-    n
-}
-
-// Where a number of the rows from `first` below `past` of a state is at least t: the state begins at `base`.
-fn find_among(
-    work: &[u16],
-    base: usize,
-    plan: Plan,
-    state: usize,
-    first: usize,
-    past: usize,
-    gaps: usize,
-    t: u16,
-) -> Stand
-    requires { ⌜ PlanSound plan ⌝ }
-    requires { ⌜ (state < 65536) × (first ≤ past) × (past ≤ rowsIn plan state) × (gaps < plan .planes) × (base + stateSize plan ≤ length (now work)) ⌝ }
-    ensures { λ r. ⌜ Picked (RowsFrom state first past) (storedAt (now (work .entry)) base plan) plan gaps t r ⌝ }
-{
-    let mut row = first;
-    while row < past {
-        let r = row_in(plan, state, row);
-        let at = base + row * (plan.planes * plan.across) + gaps * plan.across + r.lo;
-        let x = first_of(work, at, r.hi - r.lo, t);
-        if x < r.hi - r.lo {
-            return Stand {
-                state: state,
-                row: row,
-                pixel: r.lo + x,
-                gaps: gaps,
-            };
-        }
-        row += 1;
-    }
-    Stand {
-        state: state,
-        row: row,
-        pixel: plan.across,
-        gaps: gaps,
-    }
-}
-
-// Where a walk of so many steps that counts at t ends: the first pixel of the state, which begins at `base`,
-// whose number is at least t. On ranks every row is of so many steps; on lines one is.
-fn find_end(work: &[u16], base: usize, plan: Plan, steps: usize, gaps: usize, t: u16) -> Stand
-    requires { ⌜ PlanSound plan ⌝ }
-    requires { ⌜ (steps < 65536) × (plan .ranked ≡ false → steps < rowsIn plan 0) × (gaps < plan .planes) × (base + stateSize plan ≤ length (now work)) ⌝ }
-    ensures { λ r. ⌜ Picked (OfSteps plan steps) (storedAt (now (work .entry)) base plan) plan gaps t r ⌝ }
-{
-    if plan.ranked {
-        let rows = plans::rows_in(plan, steps);
-        return find_among(work, base, plan, steps, 0, rows, gaps, t);
-    }
-    find_among(work, base, plan, 0, steps, steps + 1, gaps, t)
 }
 
 // How many states back the row is in which a step finds its number, and how many rows.
@@ -288,9 +223,10 @@ fn walk_in(
     requires { ⌜ (getD (now path) (walk .start) 0 < scan .width * scan .height) × (Seen scan backwards (getD (now path) (walk .start) 0) sight) ⌝ }
     requires { ⌜ Kept scan backwards (now plate) (getD (now path) (walk .start) 0) sight (now work) (now marks) made ⌝ }
     requires { ⌜ (HeldFit (sight .plan) (length (now held)) (length (now below))) × (end .gaps ≡ walk .gaps) ⌝ }
-    requires { ⌜ Stands scan backwards (now plate) (getD (now path) (walk .start) 0) sight (walk .key) (walk .steps) end ⌝ }
+    requires { ⌜ (Stands scan backwards (now plate) (getD (now path) (walk .start) 0) sight (walk .key) (walk .steps) end) × (EndsAt scan (now plate) (walk .key) (placeKept (sight .frame) (sight .plan .ranked) (rowAt (sight .plan) (end .state) (end .row) + end .pixel))) ⌝ }
     ensures { λ _. ⌜ Trail (scan .width) (scan .height) (bitOf scan) backwards (now (path .entry)) (now (path .exit)) (walk .start) (walk .steps) ⌝ }
     ensures { λ _. ⌜ lowAlong backwards (keyOf scan (now (plate .entry))) (walk .key) (now (path .exit)) (walk .start) (walk .steps + 1) ≤ walk .gaps ⌝ }
+    ensures { λ _. ⌜ EndsAt scan (now (plate .entry)) (walk .key) (getD (now (path .exit)) (indexAfter backwards (walk .start) (walk .steps)) 0) ⌝ }
 {
     let plan = sight.plan;
     let mut stack = made;
@@ -339,9 +275,10 @@ fn follow_counted(
     requires { ⌜ Levels (now plate) ⌝ }
     requires { ⌜ (length (now path) ≤ 65536) × (walk .start < length (now path)) ⌝ }
     requires { ⌜ Within backwards (length (now path)) (walk .start) (walk .steps) ⌝ }
-    requires { ⌜ Leads (scan .width) (scan .height) (bitOf scan) backwards (keyOf scan (now plate)) (walk .key) (scan .spare) (walk .steps) (walk .gaps) (getD (now path) (walk .start) 0) ⌝ }
+    requires { ⌜ Leads (scan .slack) (scan .width) (scan .height) (bitOf scan) backwards (keyOf scan (now plate)) (walk .key) (scan .spare) (walk .steps) (walk .gaps) (getD (now path) (walk .start) 0) ⌝ }
     ensures { λ _. ⌜ Trail (scan .width) (scan .height) (bitOf scan) backwards (now (path .entry)) (now (path .exit)) (walk .start) (walk .steps) ⌝ }
     ensures { λ _. ⌜ lowAlong backwards (keyOf scan (now (plate .entry))) (walk .key) (now (path .exit)) (walk .start) (walk .steps + 1) ≤ walk .gaps ⌝ }
+    ensures { λ _. ⌜ EndsAt scan (now (plate .entry)) (walk .key) (getD (now (path .exit)) (indexAfter backwards (walk .start) (walk .steps)) 0) ⌝ }
 {
     let mut held = [0u16; 18612];
     let mut below = [0u16; 1032];
@@ -366,7 +303,7 @@ fn follow_counted(
         wanted(plan, walk.steps + 1),
     );
     let top = top_of(plan, stack);
-    let end = find_end(work, top, plan, walk.steps, walk.gaps, walk.key);
+    let end = find_end(work, top, plan, walk, scan.slack);
     walk_in(
         path,
         work,
@@ -398,9 +335,10 @@ pub(crate) fn follow(
     requires { ⌜ Levels (now plate) ⌝ }
     requires { ⌜ (length (now path) ≤ 65536) × (walk .start < length (now path)) ⌝ }
     requires { ⌜ Within backwards (length (now path)) (walk .start) (walk .steps) ⌝ }
-    requires { ⌜ Leads (scan .width) (scan .height) (bitOf scan) backwards (keyOf scan (now plate)) (walk .key) (scan .spare) (walk .steps) (walk .gaps) (getD (now path) (walk .start) 0) ⌝ }
+    requires { ⌜ Leads (scan .slack) (scan .width) (scan .height) (bitOf scan) backwards (keyOf scan (now plate)) (walk .key) (scan .spare) (walk .steps) (walk .gaps) (getD (now path) (walk .start) 0) ⌝ }
     ensures { λ _. ⌜ Trail (scan .width) (scan .height) (bitOf scan) backwards (now (path .entry)) (now (path .exit)) (walk .start) (walk .steps) ⌝ }
     ensures { λ _. ⌜ lowAlong backwards (keyOf scan (now (plate .entry))) (walk .key) (now (path .exit)) (walk .start) (walk .steps + 1) ≤ walk .gaps ⌝ }
+    ensures { λ _. ⌜ EndsAt scan (now (plate .entry)) (walk .key) (getD (now (path .exit)) (indexAfter backwards (walk .start) (walk .steps)) 0) ⌝ }
 {
     if walk.key == 0 {
         follow_any(path, scan, backwards, walk.start, walk.steps);

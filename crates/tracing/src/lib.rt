@@ -2,10 +2,10 @@
 //
 // By the span law the sizes alone tell whether there is a path. The filter's states, with walks that start
 // at the picked pixel alone (sight.rt), then give for every number of steps and gaps the best walk on from
-// it and back (notes.rt); the two halves that fit best tell the level (find.rt). Each half of the path is
-// followed from its far end to the pixel (follow.rt), each next pixel one whose number is at least the
-// level. On a straight direction one state of a side holds all of its walks; on a diagonal one they are
-// made again from a stack of states.
+// it and back (notes.rt), as far as a path may end where it does (ended.rt); the two halves that fit best
+// tell the level (find.rt). Each half of the path is followed from its far end (far_end.rt) to the pixel
+// (follow.rt), each next pixel one whose number is at least the level. On a straight direction one state of
+// a side holds all of its walks; on a diagonal one they are made again from a stack of states.
 ghost use mathlib.Core.Path.{_≡_};
 ghost use lib.ListN.{length};
 ghost use Rattle.plate.specs.Refusals.{traceVerdict};
@@ -13,6 +13,8 @@ ghost use Rattle.plate.specs.Answers.{tracedLevel, traceAfter};
 ghost use Rattle.theory.specs.Trace.{Shows};
 
 mod draw;
+mod ended;
+mod far_end;
 mod find;
 mod follow;
 mod heading;
@@ -35,7 +37,7 @@ use plate::refusal;
 
 // Writes the places of a path through the pixel at a place, in walking order, into the path buffer, and
 // returns the bit of its direction (document 01: way) and the pixel's filtered level; or refuses (1 to 8,
-// 11, 12) and changes nothing.
+// 18, 11, 12) and changes nothing.
 pub fn trace(
     width: usize,
     height: usize,

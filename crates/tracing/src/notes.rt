@@ -1,16 +1,18 @@
 // The best walks from the picked pixel, noted for every number of steps and of gaps: the best number of any
-// pixel that the walks lead to.
+// pixel that the walks lead to, as far as a path may end there.
 ghost use mathlib.Core.Path.{_≡_};
 ghost use Prim.Native.Nat.{ℕ, _+_, _-_, _*_, _≤_, _<_};
 ghost use lib.ListN.{length, getD};
 ghost use Rattle.states.specs.Runs.{Apart};
-ghost use Rattle.plans.specs.Plans.{rowsIn, rowSize, stateSize};
+ghost use Rattle.plans.specs.Plans.{rowsIn, rowSize, stateSize, keysSize};
 ghost use Rattle.plans.specs.Plans.{Sound as SoundPlan};
 ghost use Rattle.directions.specs.Numbers.{stepsAt};
 ghost use Rattle.tracing.specs.Scans.{Sound, bitOf, keyOf};
-ghost use Rattle.tracing.specs.Noting.{Highest, Lifted, FromRow, FromState, NotesFit, rowCells, stateCells};
+ghost use Rattle.tracing.specs.Noting.{Highest, Lifted, FromRow, FromState, NotesFit, rowEnded};
+ghost use Rattle.tracing.specs.Endings.{endedAt, endedIn};
 ghost use Rattle.tracing.specs.Finding.{Noted, cells};
 ghost use Rattle.theory.specs.Modes.{Levels};
+use crate::ended::ended_at;
 use crate::scan::Scan;
 use crate::sight::lay_keys;
 use crate::sight::sight_of;
@@ -21,9 +23,9 @@ use plans::Plan;
 use plans::Row;
 
 // The highest of n numbers, or v where that is higher.
-fn highest(work: &[u16], at: usize, n: usize, v: u16) -> u16
+fn highest_of(work: &[u16], at: usize, n: usize, v: u16) -> u16
     requires { ⌜ at + n ≤ length (now work) ⌝ }
-    ensures { λ r. ⌜ Highest (λ (x : ℕ). getD (now (work .entry)) x 0) at (at + n) v r ⌝ }
+    ensures { λ r. ⌜ Highest (λ (x : ℕ). getD (now (work .entry)) (at + x) 0) 0 n v r ⌝ }
 {
     let mut best = v;
     let mut x = 0;
@@ -34,17 +36,44 @@ fn highest(work: &[u16], at: usize, n: usize, v: u16) -> u16
     best
 }
 
+// The highest that walks count for which end at one of n pixels, or v where that is higher; the numbers begin
+// at `at` and the keys at `keys`.
+fn highest_ended(work: &[u16], at: usize, keys: usize, n: usize, v: u16, slack: u16) -> u16
+    requires { ⌜ (at + n ≤ length (now work)) × (keys + n ≤ length (now work)) ⌝ }
+    ensures { λ r. ⌜ Highest (λ (x : ℕ). endedAt (now (work .entry)) slack (keys + x) (at + x)) 0 n v r ⌝ }
+{
+    let mut best = v;
+    let mut x = 0;
+    while x < n {
+        best = states::max2(best, ended_at(work, at + x, keys + x, slack));
+        x += 1;
+    }
+    best
+}
+
+// The same; where a path may end anywhere no key is asked.
+fn highest(work: &[u16], at: usize, keys: usize, n: usize, v: u16, slack: u16) -> u16
+    requires { ⌜ (at + n ≤ length (now work)) × (keys + n ≤ length (now work)) ⌝ }
+    ensures { λ r. ⌜ Highest (λ (x : ℕ). endedAt (now (work .entry)) slack (keys + x) (at + x)) 0 n v r ⌝ }
+{
+    if slack == plans::MAX_KEY {
+        return highest_of(work, at, n, v);
+    }
+    highest_ended(work, at, keys, n, v, slack)
+}
+
 // The notes at `to` and after it rise to the row of a state that begins at `at`, plane by plane.
-fn note_row(notes: &mut [u16], to: usize, work: &[u16], at: usize, plan: Plan, row: Row)
+fn note_row(notes: &mut [u16], to: usize, work: &[u16], at: usize, plan: Plan, row: Row, slack: u16)
     requires { ⌜ (row .lo ≤ row .hi) × (row .hi ≤ plan .across) × (plan .across ≤ 1024) × (plan .planes ≤ 9) ⌝ }
-    requires { ⌜ (at ≤ 16777216) × (at + rowSize plan ≤ length (now work)) × (to + plan .planes ≤ length (now notes)) ⌝ }
-    ensures { λ _. ⌜ Lifted (FromRow (rowCells (now (work .entry)) at (plan .across)) (row .lo) (row .hi) to (plan .planes)) (now (notes .entry)) (now (notes .exit)) ⌝ }
+    requires { ⌜ (at ≤ 16777216) × (at + rowSize plan ≤ length (now work)) × (to + plan .planes ≤ length (now notes)) × (row .at ≤ 65536) × (row .at + plan .across ≤ length (now work)) ⌝ }
+    ensures { λ _. ⌜ Lifted (FromRow (rowEnded (now (work .entry)) slack (row .at) at (plan .across)) (row .lo) (row .hi) to (plan .planes)) (now (notes .entry)) (now (notes .exit)) ⌝ }
 {
     let n = row.hi - row.lo;
+    let keys = row.at + row.lo;
     let mut from = at + row.lo;
     let mut j = 0;
     while j < plan.planes {
-        notes[to + j] = highest(work, from, n, notes[to + j]);
+        notes[to + j] = highest(work, from, keys, n, notes[to + j], slack);
         j += 1;
         from += plan.across;
     }
@@ -59,10 +88,18 @@ fn steps_in(plan: Plan, e: usize, m: usize) -> usize
 
 // The notes rise to all rows of state e, which stands at `base`: each row to the notes of its number of
 // steps.
-fn note_state(notes: &mut [u16], to: usize, work: &[u16], base: usize, plan: Plan, e: usize)
+fn note_state(
+    notes: &mut [u16],
+    to: usize,
+    work: &[u16],
+    base: usize,
+    plan: Plan,
+    e: usize,
+    slack: u16,
+)
     requires { ⌜ SoundPlan plan ⌝ }
-    requires { ⌜ (e < 65536) × (base ≤ 65536) × (base + stateSize plan ≤ length (now work)) × (NotesFit plan e to (length (now notes))) ⌝ }
-    ensures { λ _. ⌜ Lifted (FromState plan (stateCells (now (work .entry)) base plan) to e (rowsIn plan e)) (now (notes .entry)) (now (notes .exit)) ⌝ }
+    requires { ⌜ (e < 65536) × (base ≤ 65536) × (base + stateSize plan ≤ length (now work)) × (keysSize plan ≤ base) × (NotesFit plan e to (length (now notes))) ⌝ }
+    ensures { λ _. ⌜ Lifted (FromState plan (endedIn (now (work .entry)) slack base plan e) to e (rowsIn plan e)) (now (notes .entry)) (now (notes .exit)) ⌝ }
 {
     let rows = plans::rows_in(plan, e);
     let mut at = base;
@@ -70,7 +107,7 @@ fn note_state(notes: &mut [u16], to: usize, work: &[u16], base: usize, plan: Pla
     while m < rows {
         let steps = steps_in(plan, e, m);
         let row = row_in(plan, e, m);
-        note_row(notes, to + steps * plan.planes, work, at, plan, row);
+        note_row(notes, to + steps * plan.planes, work, at, plan, row, slack);
         at += plan.planes * plan.across;
         m += 1;
     }
@@ -90,7 +127,7 @@ pub(crate) fn note_side(
     requires { ⌜ Sound scan ⌝ }
     requires { ⌜ (length (now plate) ≡ scan .width * scan .height) × (x < scan .width * scan .height) × (4 * (scan .setting .gaps + 1) * (scan .width * scan .height) ≤ length (now work)) ⌝ }
     requires { ⌜ (to + (scan .steps + 1) * (scan .setting .gaps + 1) ≤ length (now notes)) × (length (now notes) < 65536) ⌝ }
-    ensures { λ _. ⌜ Noted (cells (now (notes .exit)) to) (scan .width) (scan .height) (bitOf scan) backwards (keyOf scan (now (plate .entry))) (scan .setting .gaps) (scan .steps) x ⌝ }
+    ensures { λ _. ⌜ Noted (scan .slack) (cells (now (notes .exit)) to) (scan .width) (scan .height) (bitOf scan) backwards (keyOf scan (now (plate .entry))) (scan .setting .gaps) (scan .steps) x ⌝ }
     ensures { λ _. ⌜ Apart (now (notes .entry)) (now (notes .exit)) to (to + (scan .steps + 1) * (scan .setting .gaps + 1)) ⌝ }
     ensures { λ _. ⌜ Levels (now (plate .entry)) ⌝ }
 {
@@ -104,7 +141,7 @@ pub(crate) fn note_side(
     let mut e = 0;
     while e < sight.states {
         advance(work, &mut held, &mut below, plan, e, base);
-        note_state(notes, to, work, base, plan, e);
+        note_state(notes, to, work, base, plan, e, scan.slack);
         e += 1;
     }
 }

@@ -17,6 +17,8 @@ pub(crate) struct Scan {
     pub(crate) steps: usize,
     // how many steps more the direction's longest paths have
     pub(crate) spare: usize,
+    // the highest key at which a path may end on a gap
+    pub(crate) slack: u16,
 }
 
 // The scan of the direction at this index, whose longest paths have this length.
@@ -40,5 +42,6 @@ pub(crate) fn scan_of(
         index: index,
         steps: setting.length - 1,
         spare: longest - setting.length,
+        slack: plans::gap_end(setting.ends),
     }
 }

@@ -1,4 +1,4 @@
-//! The plates that tests run on: section 7's, and random ones with their settings.
+//! The plates and texts that tests run on: those of the papers, and random plates with their settings.
 use crate::plate::{CLOSING, EAST, NORTH, NORTH_EAST, OPENING, SOUTH_EAST};
 use crate::random::{plate, Kind, Random, KINDS};
 use crate::{Plate, Setting};
@@ -34,6 +34,63 @@ pub fn worked_plates() -> Vec<(&'static str, Plate, Setting, Vec<i16>)> {
         row("P8", 2, &square, [2, 0, NORTH_EAST, OPENING], &[1, 9, 9, 1]),
         row("P9", 2, &square, [2, 0, SOUTH_EAST, OPENING], &[1, 1, 1, 1]),
         row("P10", 1, &[low], [1, 0, 15, CLOSING], &[low]),
+    ]
+}
+
+/// The rows of document 02, N5, opened or closed to the east: plate, setting, and the filtered levels
+/// where paths end anywhere and where they end on crack.
+pub fn worked_ends() -> Vec<(Plate, Setting, [Vec<i16>; 2])> {
+    let gap_second_and_last = [9, 1, 9, 9, 1];
+    let low = i16::MIN;
+    let row = |levels: &[i16], [length, gaps, mode]: [usize; 3], by_ends: [&[i16]; 2]| {
+        let plate = Plate::new(levels.len(), 1, levels.to_vec()).unwrap();
+        (plate, Setting::new(length, gaps, EAST, mode), by_ends.map(<[i16]>::to_vec))
+    };
+    vec![
+        row(&[5, 9, 12, 8], [4, 1, OPENING], [&[5, 8, 8, 8], &[5, 5, 5, 5]]),
+        row(&[12, 5, 9, 8], [4, 1, CLOSING], [&[12, 9, 9, 9], &[12, 12, 12, 12]]),
+        row(&gap_second_and_last, [3, 1, OPENING], [&gap_second_and_last, &[9, 1, 9, 1, 1]]),
+        // A path of two pixels is all ends, so that the gap is of no use.
+        row(&gap_second_and_last, [2, 1, OPENING], [&gap_second_and_last, &[1, 1, 9, 9, 1]]),
+        row(&gap_second_and_last, [2, 0, OPENING], [&[1, 1, 9, 9, 1], &[1, 1, 9, 9, 1]]),
+        // The gap is inside.
+        row(&[9, 5, 12, 8], [4, 1, OPENING], [&[8, 5, 8, 8], &[8, 5, 8, 8]]),
+        row(&[3], [1, 0, OPENING], [&[3], &[3]]),
+        row(&[3], [2, 1, OPENING], [&[low], &[low]]),
+    ]
+}
+
+/// Texts of both editions and the answers to them (document 02, N5): the example of the second one, with
+/// lines changed.
+pub fn worked_texts() -> Vec<(String, &'static str)> {
+    let example = include_str!("../../../examples/ends.txt");
+    let changed = |changes: &[(&str, &str)]| {
+        changes.iter().fold(example.to_string(), |text, (line, other)| {
+            assert!(text.contains(line), "{line}");
+            text.replacen(line, other, 1)
+        })
+    };
+    let (length, ends) = (("length=4\n", "length=5\n"), ("ends=1\n", "ends=2\n"));
+    let no_path = "width=4\nheight=1\nout=-32768,-32768,-32768,-32768\nrefused=12\nplace=0\n";
+    let on_crack = "width=4\nheight=1\nout=5,5,5,5\nway=2\nlevel=5\npath=0,1,2,3\n";
+    let anywhere = "width=4\nheight=1\nout=5,8,8,8\nway=2\nlevel=5\npath=0,1,2,3\n";
+    vec![
+        (changed(&[]), on_crack),
+        (changed(&[("ends=1\n", "ends=000001\n")]), on_crack),
+        (changed(&[("ends=1\n", "ends=0\n")]), anywhere),
+        (changed(&[("plate=2\n", "plate=1\n"), ("ends=1\n", "")]), anywhere),
+        (changed(&[length]), no_path),
+        (changed(&[ends]), "refused=18\nplace=0\n"),
+        (changed(&[ends, ("mode=0\n", "mode=2\n")]), "refused=5\nplace=0\n"),
+        (changed(&[ends, length]), "refused=18\nplace=0\n"),
+        (changed(&[ends, ("at=0\n", "at=4\n")]), "refused=18\nplace=0\n"),
+        (changed(&[ends, ("row=5", "row=16384")]), "refused=9\nplace=0\n"),
+        (changed(&[ends, ("cor=0,0", "cor=0,49151")]), "refused=10\nplace=1\n"),
+        (changed(&[("ends=1\n", "ends=65536\n")]), "refused=13\nplace=6\n"),
+        (changed(&[("ends=1\n", "")]), "refused=13\nplace=6\n"),
+        (changed(&[("plate=2\n", "plate=1\n")]), "refused=13\nplace=6\n"),
+        (changed(&[("plate=2\n", "plate=3\n")]), "refused=13\nplace=1\n"),
+        (changed(&[("plate=2\n", "plate=02\n")]), "refused=13\nplace=1\n"),
     ]
 }
 

@@ -1,6 +1,6 @@
 //! The library's calls on the types of this package.
 use crate::{Plate, Refusal, Setting, Trace};
-use diilvak::{raw, Directions, Mode};
+use diilvak::{raw, Directions, Ends, Mode};
 
 /// The same plate for the library.
 pub fn plate(plate: &Plate) -> diilvak::Plate {
@@ -10,18 +10,18 @@ pub fn plate(plate: &Plate) -> diilvak::Plate {
 
 /// The same setting for the library, or a refusal that applies to it.
 pub fn setting(setting: Setting) -> Result<diilvak::Setting, Refusal> {
-    let Setting { length, gaps, directions, mode } = setting;
+    let Setting { length, gaps, directions, mode, ends } = setting;
     let checked = || -> Result<diilvak::Setting, diilvak::Refusal> {
         let (directions, mode) = (Directions::from_bits(directions)?, Mode::from_number(mode)?);
-        diilvak::Setting::new(length, gaps, directions, mode)
+        diilvak::Setting::new(length, gaps, directions, mode, Ends::from_number(ends)?)
     };
     checked().map_err(refusal)
 }
 
-/// The four numbers, right or wrong.
+/// The five numbers, right or wrong.
 pub fn numbers(setting: Setting) -> raw::Setting {
-    let Setting { length, gaps, directions, mode } = setting;
-    raw::Setting { length, gaps, directions, mode }
+    let Setting { length, gaps, directions, mode, ends } = setting;
+    raw::Setting { length, gaps, directions, mode, ends }
 }
 
 /// A refusal by its number, with place 0 where it has none.

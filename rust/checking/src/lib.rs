@@ -2,13 +2,16 @@
 //!
 //! * [`listing`]: opening and closing by the definition, over a listing of all paths, and the judge
 //!   of traces.
-//! * [`queue`]: the published fast method, path lengths updated by an ordered queue.
+//! * [`queue`]: the published fast method, path lengths updated by an ordered queue; for paths that may
+//!   end anywhere.
 //! * [`levels`]: the textbook method, one scan a level.
+//! * [`recursion`]: the published decomposition, by the number of pixels and gaps.
+//! * [`fast`]: the queue or the recursion, by where paths may end.
 //! * [`table`]: the refusal table; [`text`]: the survey program's text.
 //! * [`plate`]: plates, settings and directions as bare numbers; [`random`] and [`cases`]: plates of
 //!   fixed seeds, and the worked ones; [`lent`]: buffers that remember what they held.
 //!
-//! All of this is written from document 01 and uses nothing of the library, its plain data types
+//! All of this is written from the documents and uses nothing of the library, its plain data types
 //! neither. The feature `engine`, which is on unless it is turned off, adds the library itself:
 //!
 //! * `engine`: the library's calls on these types.
@@ -17,12 +20,14 @@
 pub mod cases;
 #[cfg(feature = "engine")]
 pub mod engine;
+pub mod fast;
 pub mod lent;
 pub mod levels;
 pub mod listing;
 pub mod plate;
 pub mod queue;
 pub mod random;
+pub mod recursion;
 pub mod table;
 pub mod text;
 

@@ -1,7 +1,7 @@
-//! Opening and closing by the definition (section 3): list all paths, take the best through each
-//! pixel. Exponential in the length, so for small plates; nothing here is clever, which is its point.
-//! The judge holds a trace to every sentence of demand 3.
-use crate::plate::{mirrored, Direction, Plate, Refusal, Setting, Trace, CLOSING};
+//! Opening and closing by the definition (section 3; the ends of paths: document 02, N5): list all paths,
+//! take the best through each pixel. Exponential in the length, so for small plates; nothing here is
+//! clever, which is its point. The judge holds a trace to every sentence of demand 3.
+use crate::plate::{mirrored, Direction, Plate, Refusal, Setting, Trace, CLOSING, ON_CRACK};
 
 /// Hands every path of the setting's length, in every chosen direction, to `visit`.
 pub fn each_path(
@@ -39,17 +39,20 @@ fn extend(
     }
 }
 
-/// Whether a path counts at a level: at most k of its pixels are below it (closing: above it).
+/// Whether a path counts at a level: at most k of its pixels are below it (closing: above it), and
+/// where it has to end on crack, neither its first nor its last.
 pub fn admits(plate: &Plate, setting: Setting, level: i16, path: &[usize]) -> bool {
-    let missing = path.iter().filter(|&&p| {
+    let missing = |p: usize| {
         let own = plate.levels()[p];
         if setting.mode == CLOSING {
             own > level
         } else {
             own < level
         }
-    });
-    missing.count() <= setting.gaps
+    };
+    let gaps = path.iter().filter(|&&p| missing(p)).count();
+    let ends_missing = missing(path[0]) || missing(path[path.len() - 1]);
+    gaps <= setting.gaps && !(setting.ends == ON_CRACK && ends_missing)
 }
 
 /// The opened or closed plate.
@@ -58,9 +61,14 @@ pub fn filter(plate: &Plate, setting: Setting) -> Plate {
     let mut opened = vec![i16::MIN; own.len()];
     each_path(plate.width(), plate.height(), setting, |_, path| {
         // The highest level at which the path counts is its (k + 1)-th lowest: at most k are below
-        // that, and k + 1 are below anything higher.
+        // that, and k + 1 are below anything higher. One that ends on crack counts no higher than
+        // the lower of its ends.
         let mut levels: Vec<i16> = path.iter().map(|&p| own[p]).collect();
-        let (_, &mut highest, _) = levels.select_nth_unstable(setting.gaps);
+        let lower_end = levels[0].min(levels[levels.len() - 1]);
+        let (_, &mut mut highest, _) = levels.select_nth_unstable(setting.gaps);
+        if setting.ends == ON_CRACK {
+            highest = highest.min(lower_end);
+        }
         for &p in path {
             opened[p] = opened[p].max(highest.min(own[p]));
         }

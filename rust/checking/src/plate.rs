@@ -1,7 +1,8 @@
 //! Plates, settings, directions and refusals: what all methods share (sections 1 to 5, with the bounds of
-//! document 02, N1). All numbers are bare, so that a setting can be as wrong as a caller can make it.
+//! document 02, N1, and its `ends`, N5). All numbers are bare, so that a setting can be as wrong as a
+//! caller can make it.
 use std::fmt;
-use std::ops::RangeInclusive;
+use std::ops::{Range, RangeInclusive};
 
 pub const MAX_SIDE: usize = 1024;
 pub const MAX_PIXELS: usize = 65_536;
@@ -12,6 +13,11 @@ pub const MAX_GAPS: usize = 8;
 
 pub const OPENING: usize = 0;
 pub const CLOSING: usize = 1;
+
+/// Where a path may end: anywhere, or not at a gap.
+pub const ANYWHERE: usize = 0;
+pub const ON_CRACK: usize = 1;
+pub const BOTH_ENDS: [usize; 2] = [ANYWHERE, ON_CRACK];
 
 pub const NORTH: usize = 1;
 pub const EAST: usize = 2;
@@ -66,18 +72,25 @@ impl Direction {
     }
 }
 
-/// The length of a path in pixels, the gaps allowed on it, a sum of direction bits, and the mode.
+/// The length of a path in pixels, the gaps allowed on it, a sum of direction bits, the mode, and where a
+/// path may end.
 #[derive(Clone, Copy, Debug, PartialEq, Eq)]
 pub struct Setting {
     pub length: usize,
     pub gaps: usize,
     pub directions: usize,
     pub mode: usize,
+    pub ends: usize,
 }
 
 impl Setting {
+    /// With ends anywhere, as all settings of document 01; [`Setting::with_ends`] has the others.
     pub fn new(length: usize, gaps: usize, directions: usize, mode: usize) -> Setting {
-        Setting { length, gaps, directions, mode }
+        Setting { length, gaps, directions, mode, ends: ANYWHERE }
+    }
+
+    pub fn with_ends(self, ends: usize) -> Setting {
+        Setting { ends, ..self }
     }
 
     pub fn chosen(self) -> impl Iterator<Item = &'static Direction> {
@@ -165,6 +178,14 @@ impl Bordered {
 
     pub fn place(self, position: usize) -> usize {
         (position / self.stride() - 1) * self.width + position % self.stride() - 1
+    }
+
+    /// The positions of the plate's pixels, row by row.
+    pub fn rows(self) -> impl Iterator<Item = Range<usize>> {
+        (0..self.height).map(move |row| {
+            let first = self.position(row * self.width);
+            first..first + self.width
+        })
     }
 
     /// From a position to those that the steps lead to.

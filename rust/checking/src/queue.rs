@@ -6,10 +6,18 @@
 //! Two prunings keep it fast. Lengths above L are all kept as L, so a change is followed no further
 //! than it matters. And a pixel through which no path of L is left is taken off the plate for good:
 //! no later threshold can use it, and changes stop there.
-use crate::plate::{Bordered, Direction, Plate, Setting};
+//!
+//! It rests on 'a longer path holds one of exactly L', so it is for ends anywhere: a path that ends on
+//! crack need not hold a shorter one that does.
+use crate::plate::{Bordered, Direction, Plate, Setting, ANYWHERE};
 
 /// The opened or closed plate.
+///
+/// # Panics
+///
+/// Where paths have to end on crack.
 pub fn filter(plate: &Plate, setting: Setting) -> Plate {
+    assert_eq!(setting.ends, ANYWHERE, "longest lengths say nothing of paths that end on crack");
     let keys = plate.keys(setting.mode);
     let order = by_key(&keys);
     let mut opened = vec![0; keys.len()];

@@ -1,4 +1,5 @@
-//! The refusal table of section 5: what each call is refused with, in the order of the numbers.
+//! The refusal table of section 5: what each call is refused with, in the order of the numbers, but for
+//! 18 (document 02, N5), which comes with the setting, after 5.
 use crate::plate::{bad_size, Refusal, Setting, CORRECTIONS, MAX_GAPS, MAX_LENGTH, MAX_READING};
 
 /// The lengths of the buffers lent to a filter or a trace. `result` is the path buffer of a trace.
@@ -24,7 +25,7 @@ fn refuse(number: usize) -> Result<(), Refusal> {
 }
 
 pub fn setting(setting: Setting) -> Result<(), Refusal> {
-    let Setting { length, gaps, directions, mode } = setting;
+    let Setting { length, gaps, directions, mode, ends } = setting;
     if length == 0 || length > MAX_LENGTH {
         refuse(2)
     } else if gaps > MAX_GAPS || gaps >= length {
@@ -33,6 +34,8 @@ pub fn setting(setting: Setting) -> Result<(), Refusal> {
         refuse(4)
     } else if mode > 1 {
         refuse(5)
+    } else if ends > 1 {
+        refuse(18)
     } else {
         Ok(())
     }
@@ -65,7 +68,7 @@ pub fn correct(
     Ok(())
 }
 
-/// 1 to 8, where the result (or path) buffer is to have `wanted` numbers.
+/// 1 to 8 and 18, where the result (or path) buffer is to have `wanted` numbers.
 fn lent(
     width: usize,
     height: usize,

@@ -1,5 +1,6 @@
-//! The survey program's text of section 6, read by itself, and the judge of what the program prints.
-use crate::plate::{bad_size, Plate, Refusal, Setting, Trace};
+//! The survey program's text, section 6's and the second edition of document 02, N5, read by itself, and
+//! the judge of what the program prints.
+use crate::plate::{bad_size, Plate, Refusal, Setting, Trace, ANYWHERE};
 use crate::{listing, table};
 
 const MAX_TEXT: usize = 16_384;
@@ -65,9 +66,11 @@ pub fn read(text: &[u8]) -> Result<Request, Refusal> {
         return Err(too_large);
     }
     let mut lines = Lines { left: text, line: 0 };
-    if lines.value("plate")? != b"1" {
-        return Err(lines.bad());
-    }
+    let has_ends = match lines.value("plate")? {
+        b"1" => false,
+        b"2" => true,
+        _ => return Err(lines.bad()),
+    };
     let width = usize::from(lines.number("width")?);
     let height = usize::from(lines.number("height")?);
     if bad_size(width, height) {
@@ -76,14 +79,13 @@ pub fn read(text: &[u8]) -> Result<Request, Refusal> {
     if width * height > MAX_PLATE {
         return Err(too_large);
     }
-    let [length, gaps, ways, mode, at] = ["length", "gaps", "ways", "mode", "at"];
-    let setting = Setting::new(
-        lines.number(length)?.into(),
-        lines.number(gaps)?.into(),
-        lines.number(ways)?.into(),
-        lines.number(mode)?.into(),
-    );
-    let at = lines.number(at)?.into();
+    let length = lines.number("length")?.into();
+    let gaps = lines.number("gaps")?.into();
+    let ends = if has_ends { lines.number("ends")?.into() } else { ANYWHERE };
+    let directions = lines.number("ways")?.into();
+    let mode = lines.number("mode")?.into();
+    let setting = Setting { length, gaps, directions, mode, ends };
+    let at = lines.number("at")?.into();
     let readings = lines.rows("row", width, height)?;
     let words = lines.rows("cor", width, height)?;
     if !lines.left.is_empty() {

@@ -1,30 +1,70 @@
 //! The methods that the library is held against, held against each other. Needs no library.
 use checking::cases::{self, case, rounds, small_case};
 use checking::listing::{self, admits, each_path, judge};
-use checking::plate::{CLOSING, DIRECTIONS, EAST, NORTH, OPENING};
+use checking::plate::{ANYWHERE, BOTH_ENDS, CLOSING, DIRECTIONS, EAST, NORTH, ON_CRACK, OPENING};
 use checking::random::{Random, KINDS};
-use checking::{levels, queue, Plate, Refusal, Setting, Trace};
+use checking::{levels, queue, recursion, text, Plate, Refusal, Setting, Trace};
 
 type Filter = fn(&Plate, Setting) -> Plate;
-const METHODS: [(&str, Filter); 3] =
-    [("listing", listing::filter), ("queue", queue::filter), ("levels", levels::filter)];
+
+/// The methods beside the listing that can do paths with such ends; the slowest first.
+fn methods(ends: usize) -> Vec<(&'static str, Filter)> {
+    let mut methods: Vec<(_, Filter)> =
+        vec![("levels", levels::filter), ("recursion", recursion::filter)];
+    if ends == ANYWHERE {
+        methods.push(("queue", queue::filter));
+    }
+    methods
+}
+
+/// The filtered plate by the listing and by every other method.
+fn all_make(plate: &Plate, setting: Setting, expected: &[i16], case: &str) {
+    let listing: (_, Filter) = ("listing", listing::filter);
+    for (method, filter) in methods(setting.ends).into_iter().chain([listing]) {
+        assert_eq!(filter(plate, setting).levels(), expected, "{case} by {method}");
+    }
+}
 
 #[test]
 fn worked_plates() {
     for (name, plate, setting, expected) in cases::worked_plates() {
-        for (method, filter) in METHODS {
-            assert_eq!(filter(&plate, setting).levels(), expected, "{name} by {method}");
+        all_make(&plate, setting, &expected, name);
+    }
+}
+
+#[test]
+fn worked_ends() {
+    for (plate, setting, by_ends) in cases::worked_ends() {
+        for (ends, expected) in BOTH_ENDS.into_iter().zip(by_ends) {
+            let setting = setting.with_ends(ends);
+            all_make(&plate, setting, &expected, &format!("{plate:?} {setting:?}"));
         }
     }
 }
 
-/// The listing takes the (k + 1)-th lowest level of a path; the definition asks for the highest level
-/// at which a path counts. All 65,536 levels are tried, on a few plates.
+/// The second reader and its judge on texts of both editions.
+#[test]
+fn worked_texts() {
+    for (asked, answer) in cases::worked_texts() {
+        assert_eq!(text::judge(asked.as_bytes(), answer.as_bytes()), Ok(()), "{asked}");
+    }
+}
+
+#[test]
+#[should_panic(expected = "longest lengths say nothing of paths that end on crack")]
+fn queue_is_for_ends_anywhere() {
+    let plate = Plate::new(3, 1, vec![9, 7, 8]).unwrap();
+    queue::filter(&plate, Setting::new(3, 1, EAST, OPENING).with_ends(ON_CRACK));
+}
+
+/// The listing takes the (k + 1)-th lowest level of a path, or a lower end; the definition asks for the
+/// highest level at which a path counts. All 65,536 levels are tried, on a few plates.
 #[test]
 fn listing_is_the_definition() {
     let mut random = Random(1);
-    for _ in 0..rounds(12, 200) {
+    for round in 0..rounds(24, 400) {
         let (plate, mut setting) = small_case(&mut random);
+        setting.ends = BOTH_ENDS[round % 2];
         setting.length = setting.length.min(4);
         setting.gaps = setting.gaps.min(setting.length - 1);
         let mut paths = Vec::new();
@@ -45,28 +85,35 @@ fn listing_is_the_definition() {
 }
 
 #[test]
-fn queue_and_levels_are_the_listing() {
+fn methods_are_the_listing() {
     let mut random = Random(2);
     for round in 0..rounds(6_000, 200_000) {
         let (plate, setting) = small_case(&mut random);
-        let expected = listing::filter(&plate, setting);
-        for (method, filter) in &METHODS[1..] {
-            let found = filter(&plate, setting);
-            assert_eq!(found, expected, "{method}, round {round}: {plate:?} {setting:?}");
+        for setting in BOTH_ENDS.map(|ends| setting.with_ends(ends)) {
+            let expected = listing::filter(&plate, setting);
+            for (method, filter) in methods(setting.ends) {
+                let found = filter(&plate, setting);
+                assert_eq!(found, expected, "{method}, round {round}: {plate:?} {setting:?}");
+            }
         }
     }
 }
 
 /// Longer paths and more gaps than can be listed.
 #[test]
-fn queue_is_levels() {
+fn methods_are_levels() {
     let mut random = Random(3);
     for round in 0..rounds(300, 6_000) {
         let kind = random.pick(&KINDS);
         let (width, height) = (random.within(1, 40), random.within(1, 40));
         let (plate, setting) = case(&mut random, kind, width, height);
-        let expected = levels::filter(&plate, setting);
-        assert!(queue::filter(&plate, setting) == expected, "round {round}: {kind:?} {setting:?}");
+        for setting in BOTH_ENDS.map(|ends| setting.with_ends(ends)) {
+            let expected = levels::filter(&plate, setting);
+            for (method, filter) in &methods(setting.ends)[1..] {
+                let same = filter(&plate, setting) == expected;
+                assert!(same, "{method}, round {round}: {kind:?} {setting:?}");
+            }
+        }
     }
 }
 
@@ -97,7 +144,8 @@ fn span_is_the_longest_path_at_every_pixel() {
 fn judge_accepts_right_traces() {
     let mut random = Random(4);
     for round in 0..rounds(400, 10_000) {
-        let (plate, setting) = small_case(&mut random);
+        let (plate, mut setting) = small_case(&mut random);
+        setting.ends = BOTH_ENDS[round % 2];
         let at = random.below(plate.pixels());
         let filtered = listing::filter(&plate, setting);
         let answer = listing::trace(&plate, setting, at);
@@ -160,6 +208,15 @@ fn judge_rejects_each_fraud() {
         assert_eq!(
             judge(&q, setting_q, 1, &raised, &q, &raised).unwrap_err(),
             "the level passes the pixel's own"
+        );
+
+        // A path whose first pixel is the gap, which it may not be where cracks end on crack.
+        let first = Plate::new(4, 1, [5, 9, 12, 8].map(dark).to_vec()).unwrap();
+        let opened = first.with([5, 8, 8, 8].map(dark).to_vec());
+        assert_eq!(judge(&first, setting_q, 1, &raised, &opened, &raised), Ok(()));
+        assert_eq!(
+            judge(&first, setting_q.with_ends(ON_CRACK), 1, &raised, &opened, &raised).unwrap_err(),
+            "the path does not count at the level"
         );
 
         let other = filtered.with(filtered.levels().iter().map(|v| v + 1).collect());

@@ -7,7 +7,8 @@ pub struct Trace {
     /// The direction of every step of the path, one of the setting's.
     pub direction: Direction,
     /// The level that [`filter`] gives the pixel by the same setting. At most as many pixels of the path
-    /// as there are gaps are below it (closing: above it).
+    /// as there are gaps are below it (closing: above it), and with [`Ends::OnCrack`](crate::Ends)
+    /// neither of its ends is.
     pub level: i16,
     /// The places of the path in walking order, as many as the setting's length.
     pub path: Vec<usize>,
@@ -50,11 +51,17 @@ pub fn correct(
 /// Where no path of the setting's length fits on the plate, every level is −32768 (closing: 32767).
 ///
 /// ```
-/// use diilvak::{filter, Direction, Mode, Plate, Setting};
+/// use diilvak::{filter, Direction, Ends, Mode, Plate, Setting};
+/// let anywhere = Setting::new(4, 1, Direction::East, Mode::Opening, Ends::Anywhere)?;
 /// let plate = Plate::new(4, 1, vec![9, 5, 12, 8])?;
-/// let setting = Setting::new(4, 1, Direction::East, Mode::Opening)?;
 /// // The second pixel is the gap, and keeps its own level.
-/// assert_eq!(filter(&plate, setting).levels(), [8, 5, 8, 8]);
+/// assert_eq!(filter(&plate, anywhere).levels(), [8, 5, 8, 8]);
+///
+/// // Here the gap is an end of the path.
+/// let plate = Plate::new(4, 1, vec![5, 9, 12, 8])?;
+/// assert_eq!(filter(&plate, anywhere).levels(), [5, 8, 8, 8]);
+/// let on_crack = Setting::new(4, 1, Direction::East, Mode::Opening, Ends::OnCrack)?;
+/// assert_eq!(filter(&plate, on_crack).levels(), [5, 5, 5, 5]);
 /// # Ok::<(), diilvak::Refusal>(())
 /// ```
 pub fn filter(plate: &Plate, setting: Setting) -> Plate {
@@ -70,9 +77,9 @@ pub fn filter(plate: &Plate, setting: Setting) -> Plate {
 /// shown is free.
 ///
 /// ```
-/// use diilvak::{filter, trace, Directions, Mode, Plate, Setting};
+/// use diilvak::{filter, trace, Directions, Ends, Mode, Plate, Setting};
 /// let plate = Plate::new(3, 3, vec![1, 1, 7, 1, 8, 1, 9, 1, 1])?;
-/// let setting = Setting::new(3, 0, Directions::ALL, Mode::Opening)?;
+/// let setting = Setting::new(3, 0, Directions::ALL, Mode::Opening, Ends::Anywhere)?;
 /// let shown = trace(&plate, setting, 4)?;
 /// assert_eq!((shown.level, shown.path.len()), (7, 3));
 /// assert_eq!(shown.level, filter(&plate, setting).levels()[4]);
@@ -82,7 +89,7 @@ pub fn filter(plate: &Plate, setting: Setting) -> Plate {
 /// # Errors
 ///
 /// [`Refusal::BadPlace`] where the place is not on the plate; [`Refusal::NoPath`] where no path of this
-/// length goes through the pixel, which depends on the size and the setting alone.
+/// length goes through the pixel, which depends on the size, the length and the directions alone.
 pub fn trace(plate: &Plate, setting: Setting, at: usize) -> Result<Trace, Refusal> {
     let mut path = vec![0; setting.length()];
     let mut work = work_for(plate, setting);

@@ -55,7 +55,7 @@ impl Directions {
     ///
     /// [`Refusal::BadDirections`] where the number is 0 or above 15.
     pub fn from_bits(bits: usize) -> Result<Directions, Refusal> {
-        let setting = raw::Setting { length: 1, gaps: 0, directions: bits, mode: 0 };
+        let setting = raw::Setting { length: 1, gaps: 0, directions: bits, mode: 0, ends: 0 };
         match raw::check_setting(setting) {
             0 => Ok(Directions(bits)),
             _ => Err(Refusal::BadDirections),

@@ -6,12 +6,12 @@
 //! `include/diilvak.h` says; this package is the safe way to it from Rust.
 //!
 //! ```
-//! use diilvak::{correct, filter, trace, Directions, Mode, Refusal, Setting, Trace};
+//! use diilvak::{correct, filter, trace, Directions, Ends, Mode, Refusal, Setting, Trace};
 //!
 //! fn crack(readings: &[u16], words: &[u16], at: usize) -> Result<Trace, Refusal> {
 //!     let plate = correct(32, 5, readings, words)?;
 //!     // Light cracks of 20 pixels with up to 3 gaps, in all four directions.
-//!     let setting = Setting::new(20, 3, Directions::ALL, Mode::Opening)?;
+//!     let setting = Setting::new(20, 3, Directions::ALL, Mode::Opening, Ends::Anywhere)?;
 //!     let opened = filter(&plate, setting);
 //!     let shown = trace(&plate, setting, at)?;
 //!     assert_eq!(shown.level, opened.levels()[at]);
@@ -38,4 +38,4 @@ pub use calls::{correct, filter, step, trace, version, Trace};
 pub use directions::{Direction, Directions};
 pub use plate::Plate;
 pub use refusal::Refusal;
-pub use setting::{Mode, Setting};
+pub use setting::{Ends, Mode, Setting};

@@ -4,8 +4,8 @@
 //! done. [`Refusal::from_number`](crate::Refusal::from_number) gives a number its name.
 //!
 //! ```
-//! use diilvak::{raw, Direction, Mode, Setting};
-//! let setting = Setting::new(4, 1, Direction::East, Mode::Opening)?;
+//! use diilvak::{raw, Direction, Ends, Mode, Setting};
+//! let setting = Setting::new(4, 1, Direction::East, Mode::Opening, Ends::Anywhere)?;
 //! // These buffers serve for any number of plates of this size.
 //! let mut work = vec![0; raw::work_length(4, 1, setting.gaps())];
 //! let mut result = [0; 4];
@@ -25,6 +25,7 @@ mod c {
             gaps: usize,
             directions: usize,
             mode: usize,
+            ends: usize,
         ) -> usize;
         pub fn diilvak_work_length(width: usize, height: usize, gaps: usize) -> usize;
         pub fn diilvak_correct(
@@ -47,6 +48,7 @@ mod c {
             gaps: usize,
             directions: usize,
             mode: usize,
+            ends: usize,
             result: *mut i16,
             result_len: usize,
             work: *mut u16,
@@ -61,6 +63,7 @@ mod c {
             gaps: usize,
             directions: usize,
             mode: usize,
+            ends: usize,
             at: usize,
             path: *mut usize,
             path_len: usize,
@@ -80,7 +83,7 @@ mod c {
     }
 }
 
-/// A setting as four numbers, right or wrong.
+/// A setting as five numbers, right or wrong.
 #[derive(Clone, Copy, Debug, PartialEq, Eq, Hash)]
 pub struct Setting {
     /// The pixels of a path.
@@ -91,6 +94,8 @@ pub struct Setting {
     pub directions: usize,
     /// 0 for opening, 1 for closing.
     pub mode: usize,
+    /// 0 where the ends of a path may be missing too, 1 where they may not.
+    pub ends: usize,
 }
 
 /// The version of the library that is linked.
@@ -99,10 +104,10 @@ pub fn version() -> usize {
     unsafe { c::diilvak_version() }
 }
 
-/// 0, or the number of the refusal of the setting, 2 to 5.
+/// 0, or the number of the refusal of the setting, 2 to 5 or 18.
 pub fn check_setting(s: Setting) -> usize {
     // SAFETY: numbers only.
-    unsafe { c::diilvak_check_setting(s.length, s.gaps, s.directions, s.mode) }
+    unsafe { c::diilvak_check_setting(s.length, s.gaps, s.directions, s.mode, s.ends) }
 }
 
 /// How many numbers the work buffer of a filter or a trace has at least; 0 where the size or the gap
@@ -138,7 +143,7 @@ pub fn correct(
     }
 }
 
-/// 0, with every level of `result` written, or refusal 1 to 8.
+/// 0, with every level of `result` written, or refusal 1 to 8 or 18.
 pub fn filter(
     width: usize,
     height: usize,
@@ -158,6 +163,7 @@ pub fn filter(
             s.gaps,
             s.directions,
             s.mode,
+            s.ends,
             result.as_mut_ptr(),
             result.len(),
             work.as_mut_ptr(),
@@ -166,7 +172,8 @@ pub fn filter(
     }
 }
 
-/// 0, with `path`, `direction` (its bit) and `level` written, or refusal 1 to 8, 11 or 12.
+/// 0, with `path`, `direction` (its bit) and `level` written, or refusal 1 to 8, 11, 12 or
+/// 18.
 #[allow(clippy::too_many_arguments)]
 pub fn trace(
     width: usize,
@@ -190,6 +197,7 @@ pub fn trace(
             s.gaps,
             s.directions,
             s.mode,
+            s.ends,
             at,
             path.as_mut_ptr(),
             path.len(),

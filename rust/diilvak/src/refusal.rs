@@ -40,6 +40,8 @@ pub enum Refusal {
     BadPlace,
     /// 12: no path of this length, in one of the directions, goes through the pixel.
     NoPath,
+    /// 18: the ends are neither anywhere nor on crack. It is judged after 5 and before 6.
+    BadEnds,
 }
 
 impl Refusal {
@@ -66,6 +68,7 @@ impl Refusal {
             10 => Refusal::BadCorrection { place },
             11 => Refusal::BadPlace,
             12 => Refusal::NoPath,
+            18 => Refusal::BadEnds,
             _ => return None,
         })
     }
@@ -85,6 +88,7 @@ impl Refusal {
             Refusal::BadCorrection { .. } => 10,
             Refusal::BadPlace => 11,
             Refusal::NoPath => 12,
+            Refusal::BadEnds => 18,
         }
     }
 
@@ -124,6 +128,7 @@ impl fmt::Display for Refusal {
             }
             Refusal::BadPlace => f.write_str("the place is not on the plate"),
             Refusal::NoPath => f.write_str("no path of this length goes through the pixel"),
+            Refusal::BadEnds => f.write_str("the ends are neither 0 nor 1"),
         }
     }
 }

@@ -30,26 +30,58 @@ impl Mode {
     }
 }
 
-/// The length of a path in pixels, the gaps allowed on it, the directions, and the mode: always within
-/// the limits.
+/// Where a path may end. Its ends are its first pixel and its last, one pixel for a path of length 1.
+#[derive(Clone, Copy, Debug, PartialEq, Eq, Hash)]
+pub enum Ends {
+    /// The ends may be gaps, as any other pixel of the path.
+    Anywhere = 0,
+    /// A crack ends on crack: a path counts at a level only where neither of its ends is below it
+    /// (closing: above it).
+    OnCrack = 1,
+}
+
+impl Ends {
+    /// The ends with this number.
+    ///
+    /// # Errors
+    ///
+    /// [`Refusal::BadEnds`] where the number is above 1.
+    pub fn from_number(number: usize) -> Result<Ends, Refusal> {
+        match number {
+            0 => Ok(Ends::Anywhere),
+            1 => Ok(Ends::OnCrack),
+            _ => Err(Refusal::BadEnds),
+        }
+    }
+
+    /// The number of the ends.
+    pub fn number(self) -> usize {
+        self as usize
+    }
+}
+
+/// The length of a path in pixels, the gaps allowed on it, the directions, the mode, and where a path
+/// may end: always within the limits.
 #[derive(Clone, Copy, Debug, PartialEq, Eq, Hash)]
 pub struct Setting {
     length: usize,
     gaps: usize,
     directions: Directions,
     mode: Mode,
+    ends: Ends,
 }
 
 impl Setting {
     /// A setting within the limits.
     ///
     /// ```
-    /// use diilvak::{Direction, Mode, Refusal, Setting};
+    /// use diilvak::{Direction, Ends, Mode, Refusal, Setting};
     /// // Cracks of 60 pixels with up to 3 gaps, to the east.
-    /// let setting = Setting::new(60, 3, Direction::East, Mode::Opening)?;
+    /// let setting = Setting::new(60, 3, Direction::East, Mode::Opening, Ends::Anywhere)?;
     /// assert_eq!(setting.length(), 60);
     /// // A path that is all gaps is none.
-    /// assert_eq!(Setting::new(3, 3, Direction::East, Mode::Opening), Err(Refusal::BadGaps));
+    /// let all_gaps = Setting::new(3, 3, Direction::East, Mode::Opening, Ends::Anywhere);
+    /// assert_eq!(all_gaps, Err(Refusal::BadGaps));
     /// # Ok::<(), Refusal>(())
     /// ```
     ///
@@ -61,8 +93,9 @@ impl Setting {
         gaps: usize,
         directions: impl Into<Directions>,
         mode: Mode,
+        ends: Ends,
     ) -> Result<Setting, Refusal> {
-        let setting = Setting { length, gaps, directions: directions.into(), mode };
+        let setting = Setting { length, gaps, directions: directions.into(), mode, ends };
         match Refusal::from_number(raw::check_setting(setting.into()), 0) {
             None => Ok(setting),
             Some(refusal) => Err(refusal),
@@ -88,6 +121,11 @@ impl Setting {
     pub fn mode(self) -> Mode {
         self.mode
     }
+
+    /// Where a path may end.
+    pub fn ends(self) -> Ends {
+        self.ends
+    }
 }
 
 impl From<Setting> for raw::Setting {
@@ -97,6 +135,7 @@ impl From<Setting> for raw::Setting {
             gaps: setting.gaps,
             directions: setting.directions.bits(),
             mode: setting.mode.number(),
+            ends: setting.ends.number(),
         }
     }
 }

@@ -1,8 +1,8 @@
-//! Limits, refusals, bits, modes and the version: the proved code (crates/, read as text), the header
+//! Limits, refusals, bits, modes, ends and the version: the proved code (crates/, read as text), the header
 //! (read as text, and compiled) and this package have the same names with the same numbers, none
-//! missing. The names differ by a rule alone: a limit has one name, and the refusal SIZE is
-//! DIILVAK_BAD_SIZE and `Refusal::BadSize`.
-use diilvak::{raw, Direction, Mode, Refusal};
+//! missing. The names differ by a rule alone: a limit has one name, the refusal SIZE is DIILVAK_BAD_SIZE
+//! and `Refusal::BadSize`, and `Ends::OnCrack` is DIILVAK_ENDS_ON_CRACK.
+use diilvak::{raw, Direction, Ends, Mode, Refusal};
 use std::collections::BTreeMap;
 use std::path::PathBuf;
 use std::process::Command;
@@ -96,7 +96,7 @@ fn refusals_of_the_package() -> Numbers {
     numbers
 }
 
-/// The refusals of the proved code by the header's names. The last two are the program's alone.
+/// The refusals of the proved code by the header's names. Those of texts are the program's alone.
 fn refusals_of_the_code() -> Numbers {
     let mut numbers = constants(&["crates/plate/src/refusal.rt"]);
     for of_texts in ["LINE", "TEXT"] {
@@ -139,16 +139,19 @@ fn refusals() {
     let refusal = |name: &str| name.starts_with("BAD_") || name == "NO_PATH";
     assert_eq!(taken(&mut macros(), refusal), code);
     assert_eq!(refusals_of_the_package(), code);
+    // In the order of judgement: by rising number, but 18 belongs to the setting, after 5.
     let mut in_order: Vec<i64> = code.into_values().collect();
-    in_order.sort_unstable();
+    in_order.sort_by_key(|&number| if number == 18 { (5, number) } else { (number, 0) });
     assert_eq!(refusals_of_the_table(), in_order);
 }
 
 #[test]
-fn directions_and_modes() {
+fn directions_modes_and_ends() {
     let directions = Direction::ALL.map(|direction| (case(direction), direction.bit() as i64));
     let modes = [Mode::Opening, Mode::Closing].map(|mode| (case(mode), mode.number() as i64));
-    let package: Numbers = directions.into_iter().chain(modes).collect();
+    let ends = [Ends::Anywhere, Ends::OnCrack]
+        .map(|ends| (format!("ENDS_{}", case(ends)), ends.number() as i64));
+    let package: Numbers = directions.into_iter().chain(modes).chain(ends).collect();
     assert_eq!(taken(&mut macros(), |name| package.contains_key(name)), package);
 }
 
@@ -159,8 +162,9 @@ fn every_macro_is_known() {
     taken(&mut rest, |name| name.starts_with("MAX_") || name.starts_with("MIN_"));
     taken(&mut rest, |name| name.starts_with("BAD_") || name.ends_with("_STACK"));
     let rest: Vec<String> = rest.into_keys().collect();
-    let known = ["CLOSING", "DONE", "EAST", "NORTH", "NORTH_EAST", "NO_PATH", "OPENING"];
-    assert_eq!(rest, [&known[..], &["SOUTH_EAST", "VERSION"]].concat());
+    let known = "CLOSING DONE EAST ENDS_ANYWHERE ENDS_ON_CRACK NORTH NORTH_EAST NO_PATH OPENING \
+                 SOUTH_EAST VERSION";
+    assert_eq!(rest, known.split(' ').collect::<Vec<_>>());
 }
 
 #[test]

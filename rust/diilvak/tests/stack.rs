@@ -1,7 +1,7 @@
 //! Filter and trace in threads with no more stack than the header says they find room in. A call that
 //! takes more ends the whole run.
 use diilvak::limits::{FILTER_STACK, TRACE_STACK};
-use diilvak::{raw, Directions, Mode, Setting};
+use diilvak::{raw, Directions, Ends, Mode, Setting};
 
 /// What the thread itself takes: its start, its thread-local storage, and the frames of this test.
 const THREAD: usize = 16 * 1024;
@@ -10,8 +10,13 @@ const THREAD: usize = 16 * 1024;
 const SIDE: usize = 256;
 const LENGTHS: [usize; 2] = [100, 300];
 
-fn setting(length: usize) -> raw::Setting {
-    Setting::new(length, 8, Directions::ALL, Mode::Opening).unwrap().into()
+/// By both lengths, with both kinds of ends.
+fn settings() -> impl Iterator<Item = raw::Setting> {
+    let both = [Ends::Anywhere, Ends::OnCrack];
+    let all = LENGTHS.into_iter().flat_map(move |length| both.map(|ends| (length, ends)));
+    all.map(|(length, ends)| {
+        Setting::new(length, 8, Directions::ALL, Mode::Opening, ends).unwrap().into()
+    })
 }
 
 /// No two neighbours alike.
@@ -33,9 +38,9 @@ fn within(stack: usize, call: impl FnOnce() -> usize + Send) -> usize {
 
 #[test]
 fn filter() {
-    for length in LENGTHS {
+    for setting in settings() {
         let (plate, mut result, mut work) = (plate(), vec![0; SIDE * SIDE], work());
-        let call = || raw::filter(SIDE, SIDE, &plate, setting(length), &mut result, &mut work);
+        let call = || raw::filter(SIDE, SIDE, &plate, setting, &mut result, &mut work);
         assert_eq!(within(FILTER_STACK, call), 0);
         assert!(result.iter().zip(&plate).all(|(opened, own)| opened <= own));
     }
@@ -43,13 +48,13 @@ fn filter() {
 
 #[test]
 fn trace() {
-    for length in LENGTHS {
-        let (plate, mut path, mut work) = (plate(), vec![0; length], work());
+    for setting in settings() {
+        let (plate, mut path, mut work) = (plate(), vec![0; setting.length], work());
         let (mut direction, mut level) = (0, 0);
         let at = SIDE * SIDE / 2 + SIDE / 2;
         let call = || {
             let (d, l) = (&mut direction, &mut level);
-            raw::trace(SIDE, SIDE, &plate, setting(length), at, &mut path, &mut work, d, l)
+            raw::trace(SIDE, SIDE, &plate, setting, at, &mut path, &mut work, d, l)
         };
         assert_eq!(within(TRACE_STACK, call), 0);
         assert!(path.contains(&at));

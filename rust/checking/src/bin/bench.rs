@@ -1,12 +1,14 @@
-//! Filter and trace against the ordered queue and against one scan a level, and the correction against
-//! two searches and a sum: the same plates, the same run, one thread. Times are processor time, so that other work on the machine counts little: the best
-//! of three calls, or one call where that takes over two seconds, with each method's own buffers (the
-//! library's are cleared first). The results are compared.
+//! Filter and trace against the ordered queue and against one scan a level, with ends on crack against
+//! ends anywhere, and the correction against two searches and a sum: the same plates, the same run, one
+//! thread. Times are processor time, so that other work on the machine counts little: the best of three
+//! calls, or one call where that takes over two seconds, with each method's own buffers (the library's
+//! are cleared first). The results are compared.
 //!
 //! `cargo run --release --bin bench [all]`: one scan a level is run where it ends in some seconds, and
 //! with `all` on every plate, which takes some minutes.
+use checking::plate::BOTH_ENDS;
 use checking::random::{plate, Kind, Random};
-use checking::{engine, levels, queue, table, Plate, Setting};
+use checking::{engine, fast, levels, queue, table, Plate, Setting};
 use diilvak::raw;
 use std::hint::black_box;
 
@@ -100,6 +102,27 @@ fn awkward() {
     }
 }
 
+/// Filter and trace where a crack has to end on crack beside where it need not.
+fn ends() {
+    println!("\n| plate | L | k | filter, ends 0 | ends 1 | ends 1 / ends 0 | trace, ends 0 | ends 1 | ends 1 / ends 0 |");
+    println!("|---|---|---|---|---|---|---|---|---|");
+    for (width, height, length, gaps) in [(256, 256, 30, 2), (1024, 64, 500, 2)] {
+        let plate = plate(&mut Random(256), Kind::Wall, width, height);
+        let [(filter, trace), (filter_1, trace_1)] = BOTH_ENDS.map(|ends| {
+            let setting = Setting::new(length, gaps, 15, 0).with_ends(ends);
+            let (filter, trace, filtered) = library(&plate, setting);
+            assert!(filtered == fast::filter(&plate, setting), "ends {ends}: the results differ");
+            (filter, trace)
+        });
+        println!(
+            "| {width} × {height}, noise and curves | {length} | {gaps} | \
+             {filter:.3} s | {filter_1:.3} s | {:.2} | {trace:.3} s | {trace_1:.3} s | {:.2} |",
+            filter_1 / filter,
+            trace_1 / trace,
+        );
+    }
+}
+
 /// The correction of a plate without faults, beside one that searches the readings, then the words, and
 /// then adds: nanoseconds a pixel.
 fn correction() {
@@ -180,6 +203,7 @@ fn main() {
             or_dash(scans.map(|t| format!("{:.2}", t / filter))),
         );
     }
+    ends();
     awkward();
     correction();
 }

@@ -1,12 +1,13 @@
 //! Draws a plate with a faint, broken crack, the opened plate, and the path that the library traces
 //! through its brightest pixel: `cargo run --release --bin picture [FILE.png]`. The same picture every
 //! time.
-use diilvak::{filter, trace, Directions, Mode, Setting};
+use diilvak::{filter, trace, Directions, Ends, Mode, Setting};
 
 fn main() -> std::io::Result<()> {
     let file = std::env::args().nth(1).unwrap_or_else(|| "crack.png".to_string());
     let plate = drawing::cracked_wall();
-    let setting = Setting::new(120, 8, Directions::ALL, Mode::Opening).expect("within the limits");
+    let setting = Setting::new(120, 8, Directions::ALL, Mode::Opening, Ends::Anywhere)
+        .expect("within the limits");
     let opened = filter(&plate, setting);
     let brightest = (0..plate.pixels()).max_by_key(|&p| opened.levels()[p]).expect("has pixels");
     let shown = trace(&plate, setting, brightest).expect("a path crosses it");

@@ -4,7 +4,7 @@ use checking::lent::Lent;
 use checking::listing::judge_shown;
 use checking::random::Random;
 use checking::table::{self, Lengths};
-use checking::{queue, Plate, Refusal, Setting, Trace};
+use checking::{fast, Plate, Refusal, Setting, Trace};
 use diilvak::raw;
 
 /// The number of a verdict, 0 where it is accepted.
@@ -31,7 +31,7 @@ pub fn filter_call(
     if found == 0 {
         assert!(result.guards_untouched() && work.guards_untouched(), "{call}: beyond a buffer");
         let plate = Plate::new(width, height, plate.lend().to_vec()).unwrap();
-        assert_eq!(result.lend(), queue::filter(&plate, setting).levels(), "{call}");
+        assert_eq!(result.lend(), fast::filter(&plate, setting).levels(), "{call}");
     } else {
         assert!(result.untouched() && work.untouched(), "{call}: a refusal changed a buffer");
     }
@@ -77,7 +77,7 @@ pub fn trace_call(
             level: level.lend()[0],
             path: path.lend().to_vec(),
         };
-        let filtered = queue::filter(&plate, setting);
+        let filtered = fast::filter(&plate, setting);
         let again = engine::trace(&filtered, setting, at);
         assert_eq!(judge_shown(&plate, setting, at, &trace, &filtered, &again), Ok(()), "{call}");
     } else {

@@ -2,6 +2,7 @@
 mod buffers;
 mod calls;
 mod corrections;
+mod ends;
 mod plates;
 mod refusals;
 mod sieving;

@@ -1,9 +1,9 @@
-//! Filter and trace against the listing and the queue.
+//! Filter and trace, with both kinds of ends, against the listing and the fast methods.
 use checking::cases::{self, case, rounds, small_case};
 use checking::listing::{judge, judge_shown};
-use checking::plate::{DIRECTIONS, OPENING};
+use checking::plate::{BOTH_ENDS, DIRECTIONS, OPENING};
 use checking::random::{plate, Kind, Random, KINDS};
-use checking::{engine, listing, queue, Plate, Refusal, Setting};
+use checking::{engine, fast, listing, Plate, Refusal, Setting};
 
 #[test]
 fn worked_plates() {
@@ -21,25 +21,33 @@ fn small_plates_are_the_listing() {
     let mut traces = 0;
     for round in 0..plates {
         let (plate, setting) = small_case(&mut random);
-        let case = format!("round {round}: {plate:?} {setting:?}");
-        let filtered = engine::filter(&plate, setting).expect("accepted");
-        assert_eq!(filtered, listing::filter(&plate, setting), "{case}");
-        for at in 0..plate.pixels() {
-            let answer = engine::trace(&plate, setting, at);
-            let again = engine::trace(&filtered, setting, at);
-            let verdict = judge(&plate, setting, at, &answer, &filtered, &again);
-            assert_eq!(verdict, Ok(()), "{case} at {at}: {answer:?}");
+        for setting in BOTH_ENDS.map(|ends| setting.with_ends(ends)) {
+            let case = format!("round {round}: {plate:?} {setting:?}");
+            let filtered = engine::filter(&plate, setting).expect("accepted");
+            assert_eq!(filtered, listing::filter(&plate, setting), "{case}");
+            for at in 0..plate.pixels() {
+                let answer = engine::trace(&plate, setting, at);
+                let again = engine::trace(&filtered, setting, at);
+                let verdict = judge(&plate, setting, at, &answer, &filtered, &again);
+                assert_eq!(verdict, Ok(()), "{case} at {at}: {answer:?}");
+            }
+            traces += plate.pixels();
         }
-        traces += plate.pixels();
     }
     println!("{plates} plates and {traces} traces against the listing");
 }
 
-/// A plate against the queue, with some traces.
+/// A plate against a fast method by either kind of ends, with some traces.
 fn compare(random: &mut Random, plate: &Plate, setting: Setting, traces: usize) {
+    for ends in BOTH_ENDS {
+        compare_by(random, plate, setting.with_ends(ends), traces);
+    }
+}
+
+fn compare_by(random: &mut Random, plate: &Plate, setting: Setting, traces: usize) {
     let case = format!("{} × {} {setting:?}", plate.width(), plate.height());
     let filtered = engine::filter(plate, setting).expect("accepted");
-    assert!(filtered == queue::filter(plate, setting), "{case}");
+    assert!(filtered == fast::filter(plate, setting), "{case}");
     let (width, height) = (plate.width(), plate.height());
     let crossed = setting.chosen().any(|d| d.span(width, height) >= setting.length);
     for _ in 0..traces {
@@ -59,7 +67,7 @@ fn compare(random: &mut Random, plate: &Plate, setting: Setting, traces: usize) 
 
 /// All sets of directions in both modes, L to 60, k to 8.
 #[test]
-fn middle_plates_are_the_queue() {
+fn middle_plates() {
     let mut random = Random(11);
     let plates = rounds(90, 3_000);
     for round in 0..plates {
@@ -70,11 +78,11 @@ fn middle_plates_are_the_queue() {
         setting.mode = round % 2;
         compare(&mut random, &plate, setting, 3);
     }
-    println!("{plates} plates against the queue");
+    println!("{plates} plates against the fast methods");
 }
 
 #[test]
-fn large_plates_are_the_queue() {
+fn large_plates() {
     let mut random = Random(12);
     for round in 0..rounds(4, 120) {
         let kind = [Kind::Wall, Kind::Noise, Kind::Ties, Kind::Slope][round % 4];

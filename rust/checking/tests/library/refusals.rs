@@ -8,6 +8,9 @@ use checking::table::{self, Lengths};
 use checking::{Plate, Refusal, Setting};
 use diilvak::raw;
 
+/// One more than the largest refusal number.
+const NUMBERS: usize = 19;
+
 /// The refusals among the plates of section 7.
 #[test]
 fn worked_refusals() {
@@ -37,7 +40,9 @@ fn any_setting(random: &mut Random) -> Setting {
     };
     let length = draw([1, 7], &[0, 9, 1024, 1025, usize::MAX]);
     let gaps = draw([0, length.clamp(1, 9) - 1], &[8, 9, length, usize::MAX]);
-    Setting::new(length, gaps, draw([1, 15], &[0, 16, usize::MAX]), draw([0, 1], &[2, usize::MAX]))
+    let directions = draw([1, 15], &[0, 16, usize::MAX]);
+    let mode = draw([0, 1], &[2, usize::MAX]);
+    Setting { length, gaps, directions, mode, ends: draw([0, 1], &[2, usize::MAX]) }
 }
 
 /// The right length, or now and then another near it.
@@ -55,9 +60,9 @@ fn any_length(random: &mut Random, right: usize) -> usize {
 #[test]
 fn refusals_follow_the_table() {
     let mut random = Random(15);
-    let mut filters = [0; 13];
-    let mut traces = [0; 13];
-    let mut corrections = [0; 13];
+    let mut filters = [0; NUMBERS];
+    let mut traces = [0; NUMBERS];
+    let mut corrections = [0; NUMBERS];
     for _ in 0..rounds(40_000, 1_000_000) {
         let size = any_size(&mut random);
         let pixels = if bad_size(size.0, size.1) { 5 } else { size.0 * size.1 };
@@ -100,11 +105,11 @@ fn refusals_follow_the_table() {
         corrections[correct_call(&mut random, size, &readings, &words, room)] += 1;
     }
     // Done, and every number that the call has, came up.
-    let came_up = |counts: [usize; 13]| -> Vec<usize> {
-        (0..13).filter(|&number| counts[number] > 0).collect()
+    let came_up = |counts: [usize; NUMBERS]| -> Vec<usize> {
+        (0..NUMBERS).filter(|&number| counts[number] > 0).collect()
     };
-    assert_eq!(came_up(filters), [0, 1, 2, 3, 4, 5, 6, 7, 8]);
-    assert_eq!(came_up(traces), [0, 1, 2, 3, 4, 5, 6, 7, 8, 11, 12]);
+    assert_eq!(came_up(filters), [0, 1, 2, 3, 4, 5, 6, 7, 8, 18]);
+    assert_eq!(came_up(traces), [0, 1, 2, 3, 4, 5, 6, 7, 8, 11, 12, 18]);
     assert_eq!(came_up(corrections), [0, 1, 6, 7, 9, 10]);
 }
 
@@ -112,7 +117,7 @@ fn refusals_follow_the_table() {
 #[test]
 fn plates_and_settings_follow_the_table() {
     let mut random = Random(17);
-    let (mut plates, mut settings) = ([0; 7], [0; 6]);
+    let (mut plates, mut settings) = ([0; NUMBERS], [0; NUMBERS]);
     for _ in 0..10_000 {
         let (width, height) = any_size(&mut random);
         let right = if bad_size(width, height) { 5 } else { width * height };
@@ -128,14 +133,16 @@ fn plates_and_settings_follow_the_table() {
 
         let setting = any_setting(&mut random);
         let found = number(engine::setting(setting).map(|_| ()));
-        // A wrong set or mode cannot come as far as the setting, so it is found first.
+        // Wrong sets, modes and ends cannot come as far as the setting, so they are found first.
         let lone = |setting: Setting| number(table::setting(setting));
-        let set = lone(Setting { length: 1, gaps: 0, mode: 0, ..setting });
-        let mode = lone(Setting { length: 1, gaps: 0, directions: 1, ..setting });
-        let expected = [set, mode, lone(setting)].into_iter().find(|&number| number > 0);
+        let right = Setting::new(1, 0, 1, OPENING);
+        let set = lone(Setting { directions: setting.directions, ..right });
+        let mode = lone(Setting { mode: setting.mode, ..right });
+        let ends = lone(right.with_ends(setting.ends));
+        let expected = [set, mode, ends, lone(setting)].into_iter().find(|&number| number > 0);
         assert_eq!(found, expected.unwrap_or(0), "{setting:?}");
         settings[found] += 1;
     }
     assert!([0, 1, 6].iter().all(|&number| plates[number] > 0), "{plates:?}");
-    assert!([0, 2, 3, 4, 5].iter().all(|&number| settings[number] > 0), "{settings:?}");
+    assert!([0, 2, 3, 4, 5, 18].iter().all(|&number| settings[number] > 0), "{settings:?}");
 }

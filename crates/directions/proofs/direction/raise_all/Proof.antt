@@ -6,6 +6,7 @@ use native.Mathlib.Omega.{arith}
 use lib.ListN.{length}
 use borrow.Author.Needs.{needs}
 use Rattle.basics.proofs.Lists.{replicate-default}
+use Rattle.theory.specs.BestWalks.{gapEnd}
 use Rattle.directions.proofs.OpeningLaws.{Opening, opening, oriented, side-asked}
 use Rattle.directions.proofs.DoorLaws.{openable}
 use Rattle.directions.proofs.TableLaws.{frame-told}
@@ -15,14 +16,14 @@ use Rattle.directions.proofs.direction.raise_all.Tie as tie
 -- what is known of the plan and of the frame that it sweeps
 ready : (c : tie.After-reach-of) →
     let a = c .before .before .before .before .before .before .args in
-    Opening (c .before .before .before .before .frame-of .result) (a .width) (a .height) (a .index) (a .setting .length) (a .setting .gaps) (c .before .filter-plan .result) (c .reach-of .result)
+    Opening (c .before .before .before .before .frame-of .result) (a .width) (a .height) (a .index) (a .setting .length) (a .setting .gaps) (gapEnd (a .setting .ends)) (c .before .filter-plan .result) (c .reach-of .result)
 ready c =
     let f = c .before .before .before .before .frame-of in
     let a = c .before .before .before .before .before .before .args in
     let o = openable _ _ _ _ _ _ _ (c .before .before .before .before .before .before .pre) .fitting in
     let known = frame-told _ _ (o .size) _ _ (o .known) (f .ensures) in
     opening (f .result) (a .width) (a .height) (a .index) (known .0) (known .1) (o .known) (a .setting .length) (o .some) (o .few) (o .long)
-    (c .before .before .before .by-rows .result) (a .setting .gaps + 1) (a .setting .gaps) refl (o .few-gaps) (c .before .filter-plan .result) (c .reach-of .result)
+    (c .before .before .before .by-rows .result) (a .setting .gaps + 1) (gapEnd (a .setting .ends)) (a .setting .gaps) refl (o .few-gaps) (c .before .filter-plan .result) (c .reach-of .result)
     (c .before .filter-plan .ensures) (c .reach-of .ensures)
 
 frame-of-requires : tie.Need-frame-of-requires

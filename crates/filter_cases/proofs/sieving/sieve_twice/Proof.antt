@@ -23,7 +23,7 @@ same-length-2 : tie.Need-same-length-2
 same-length-2 c = search needs
 
 returns : tie.Need-returns
-returns c = search needs
+returns c = λ free. search needs
 
 enum-told : tie.Need-enum-told
 enum-told c = search needs
@@ -41,14 +41,14 @@ same-length-5 : tie.Need-same-length-5
 same-length-5 c = search needs
 
 returns-2 : tie.Need-returns-2
-returns-2 c =
+returns-2 c free =
     let second = c .before .before .before .filter2 in
     let told = c .before .before .before .before .before .before .before in
     let called = told .before .before .before .before .before in
     let read = called .before .before .before in
     let start = read .before .before in
     let done = told .enum-told .given .1 in
-    second-call (start .args .setting) (start .args .width) (start .args .height) {old = start .args .between .now} (read .read-through .ensures)
+    second-call (start .args .setting) free (start .args .width) (start .args .height) {old = start .args .between .now} (read .read-through .ensures)
     (record {
       work = start .args .work .now;
       answers = sym (ap answered done) ∙ called .filter .ensures .0;

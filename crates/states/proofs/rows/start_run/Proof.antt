@@ -1,5 +1,5 @@
--- `start_run` meets its contract: the keys stand in plane 0, and plane by plane the highest key in the others. The loop begins with plane 0 made, so
--- that its invariant speaks of every list of which that was made.
+-- `start_run` meets its contract: the keys stand in plane 0, and plane by plane, raised to the slack, in the others. The loop begins with plane 0
+-- made, so that its invariant speaks of every list of which that was made.
 use Prim.Native.Nat.{ℕ, _+_, _-_, _*_, _≤_}
 use mathlib.Core.Path.{_≡_, refl, _∙_}
 use mathlib.Core.List.{List}
@@ -7,28 +7,30 @@ use native.Mathlib.Nat.{add-mul}
 use native.Mathlib.Omega.{arith}
 use lib.ListN.{getD, length}
 use Rattle.plans.specs.Plans.{pitchOf}
-use Rattle.theory.specs.BestWalks.{alone}
 use Rattle.plans.proofs.PlanSizes.{plane-fits}
-use Rattle.states.proofs.PlaneLaws.{In, Planes, planes-more, planes-ends, plane-run}
-use Rattle.states.proofs.RowLaws.{alone-later, started-first, row-started}
+use Rattle.states.proofs.PlaneLaws.{planes-ends}
+use Rattle.states.proofs.RowLaws.{StartedBelow, started-first, started-later, row-started}
 use Rattle.states.proofs.rows.start_run.Statement.{statement}
 use Rattle.states.proofs.rows.start_run.Tie as tie
 
 abbrev Inv-loop : tie.InvT-loop
-Inv-loop held₀ slot keys at plan first past n j₀ to₀ held j to =
+Inv-loop held₀ slot keys at plan first past n start j₀ to₀ held j to =
     (1 ≤ j)
     × (j ≤ plan .planes)
     × (to ≡ slot + 1 + first + j * pitchOf plan)
     × (length held ≡ length held₀)
     × ((old : List ℕ) →
-    Planes (In (first + 1) (past + 1)) (λ (i X : ℕ). alone (getD keys (at + (X - 1)) 0) i) old held₀ slot (pitchOf plan) 1 →
-    Planes (In (first + 1) (past + 1)) (λ (i X : ℕ). alone (getD keys (at + (X - 1)) 0) i) old held slot (pitchOf plan) j)
+    StartedBelow plan (λ (x : ℕ). getD keys (at + x) 0) slot first past old held₀ 1 →
+    StartedBelow plan (λ (x : ℕ). getD keys (at + x) 0) slot first past old held j)
 
 abbrev μ-loop : tie.MeasureT-loop
-μ-loop held₀ slot keys at plan first past n j₀ to₀ held j to = plan .planes - j
+μ-loop held₀ slot keys at plan first past n start j₀ to₀ held j to = plan .planes - j
 
 sub-n : tie.Need-sub-n Inv-loop μ-loop
 sub-n c = omega arith
+
+add-start : tie.Need-add-start Inv-loop μ-loop
+add-start c = let s = c .before .before in omega (arith, s .pre, s .good)
 
 add-copy-run : tie.Need-add-copy-run Inv-loop μ-loop
 add-copy-run c =
@@ -37,9 +39,6 @@ add-copy-run c =
 add-copy-run-2 : tie.Need-add-copy-run-2 Inv-loop μ-loop
 add-copy-run-2 c =
     let s = c .before .before .before in omega (arith, s .pre, s .good, plane-fits (s .args .plan) 0 (omega (arith, s .pre)))
-
-add-copy-run-3 : tie.Need-add-copy-run-3 Inv-loop μ-loop
-add-copy-run-3 c = let s = c .before .before .before in omega (arith, s .pre, s .good)
 
 copy-run-requires : tie.Need-copy-run-requires Inv-loop μ-loop
 copy-run-requires c κs = let s = c .before .before .before in omega (arith, s .pre, plane-fits (s .args .plan) 0 (omega (arith, s .pre)))
@@ -62,8 +61,8 @@ add-to-4 c =
 loop-holds : tie.Need-loop-holds Inv-loop μ-loop
 loop-holds c = (omega arith, omega (arith, c .before .before .before .before .before .before .before .pre), omega arith, refl, λ old s. s)
 
-fill-run-requires : tie.Need-fill-run-requires Inv-loop μ-loop
-fill-run-requires c κs =
+raise-run-requires : tie.Need-raise-run-requires Inv-loop μ-loop
+raise-run-requires c κs =
     let s = c .before .before .before .before .before .before .before .before .before .before .before in
     let l = c .before .before .before .loop in
     let p = s .args .plan in
@@ -91,15 +90,14 @@ loop-again c =
     let d = c .before .before .before .before .before .before .before in
     let s = d .before .before .before .before .before .before .before .before in
     let v = d .loop .inv in
-    let f = c .before .before .before .fill-run .ensures in (
+    let f = c .before .before .before .raise-run .ensures in (
       omega arith,
       omega arith,
       omega (arith, v .2, add-mul (d .loop .j) 1 (pitchOf (s .args .plan))),
       f .len ∙ v .3,
       λ old made.
-          planes-more _ _ _ _ _ _ _ _ (λ X i. omega (arith, i, s .pre)) (v .4 old made)
-          (plane-run _ _ _ _ _ _ _ _ _ _ _ f (omega (arith, v .2)) (omega (arith, v .2, s .pre)) (omega (arith, s .pre))
-          (λ X a b. alone-later _ (d .loop .j) (v .0))),
+          started-later (s .args .plan) (s .args .keys .now) (s .args .slot) (s .args .at) _ _ (s .pre .0 .4) _ _ _ _ _ _ _ _
+          (v .4 old made) f refl (v .0) (v .2) refl (omega (arith, s .pre)),
     )
 
 same-length : tie.Need-same-length Inv-loop μ-loop
@@ -113,8 +111,8 @@ returns c =
     let k = s .args .keys .now in
     let r = d .before .before .before .before .copy-run in
     let entry = s .args .held .now in
-    let made = started-first k entry (r .last .0) (s .args .slot) (pitchOf p) (s .args .at) (s .args .first) (s .args .past) _ _ _
-    (r .ensures) (omega arith) refl (omega (arith, s .pre)) (omega (arith, s .pre)) in
+    let made = started-first p k (s .args .slot) (s .args .at) (s .args .first) (s .args .past) (s .pre .0 .4) entry (r .last .0) _ _ _
+    (r .ensures) (omega arith) refl (omega (arith, s .pre)) in
     let all = planes-ends _ _ _ _ _ _ _ _ (d .loop .inv .4 entry made) (let e : d .loop .j ≡ p .planes = omega arith in e) in
     row-started _ _ (λ (x : ℕ). getD k (s .args .at + x) 0) _ _ _ _ (omega (arith, s .pre)) all
 
@@ -125,16 +123,16 @@ start-run-spec =
     Inv-loop
     μ-loop
     sub-n
+    add-start
     add-copy-run
     add-copy-run-2
-    add-copy-run-3
     copy-run-requires
     add-to
     add-to-2
     add-to-3
     add-to-4
     loop-holds
-    fill-run-requires
+    raise-run-requires
     add-j
     add-to-5
     add-to-6

@@ -20,26 +20,29 @@ wide g = g .before .size-lines .result .width
 abbrev high : tie.After-setting-lines → ℕ
 high g = g .before .size-lines .result .height
 
-readings-fit : (g : tie.After-setting-lines) → wide g * high g ≤ length (g .before .before .before .before .before .before .args .readings .now)
-readings-fit g = omega (arith, g .before .size-lines .ensures .0, g .before .before .before .before .before .before .pre .0)
+readings-fit : (g : tie.After-setting-lines) → wide g * high g ≤ length (g .before .before .before .before .before .before .before .args .readings .now)
+readings-fit g = omega (arith, g .before .size-lines .ensures .0, g .before .before .before .before .before .before .before .pre .0)
 
-words-fit : (g : tie.After-setting-lines) → wide g * high g ≤ length (g .before .before .before .before .before .before .args .words .now)
-words-fit g = omega (arith, g .before .size-lines .ensures .0, g .before .before .before .before .before .before .pre .1)
+words-fit : (g : tie.After-setting-lines) → wide g * high g ≤ length (g .before .before .before .before .before .before .before .args .words .now)
+words-fit g = omega (arith, g .before .size-lines .ensures .0, g .before .before .before .before .before .before .before .pre .1)
 
 -- the text is what the stages read
 whole : (p : tie.After-plate-lines) → let g = p .before .before .before .before in
-    (stands (g .before .before .before .before .before .before .args .s .now) (p .plate-lines .result) >>= λ l. accepted (record {
+    (stands (g .before .before .before .before .before .before .before .args .s .now) (p .plate-lines .result) >>= λ l. accepted (record {
       width = wide g;
       height = high g;
       setting = g .setting-lines .result .setting;
       at = g .setting-lines .result .at;
       readings = p .plate-lines .last .1 .1 .1 .1 .0;
       words = p .plate-lines .last .1 .1 .1 .1 .1 .0;
-    })) ≡ reading (g .before .before .before .before .before .before .args .s .now)
-whole p = let g = p .before .before .before .before in stages (g .before .before .open .ensures .0) (g .before .size-lines .ensures .1) (g .setting-lines .ensures) (p .plate-lines .ensures)
+    })) ≡ reading (g .before .before .before .before .before .before .before .args .s .now)
+whole p = let g = p .before .before .before .before in stages (g .before .before .before .open .ensures .0) (g .before .before .edition-line .ensures) (g .before .size-lines .ensures .1) (g .setting-lines .ensures) (p .plate-lines .ensures)
 
 open-requires : tie.Need-open-requires
 open-requires c κs = search needs
+
+edition-line-requires : tie.Need-edition-line-requires
+edition-line-requires c κs = search needs
 
 size-lines-requires : tie.Need-size-lines-requires
 size-lines-requires c κs = search needs
@@ -75,7 +78,7 @@ same-length-2 : tie.Need-same-length-2
 same-length-2 c = search needs
 
 returns : tie.Need-returns
-returns c = let p = c .before .before .before .before .before .before in rw (stands-refused (p .before .before .before .before .before .before .before .before .before .before .args .s .now) (p .plate-lines .result) (c .if1 .taken)) at (whole p)
+returns c = let p = c .before .before .before .before .before .before in rw (stands-refused (p .before .before .before .before .before .before .before .before .before .before .before .args .s .now) (p .plate-lines .result) (c .if1 .taken)) at (whole p)
 
 same-length-3 : tie.Need-same-length-3
 same-length-3 c = search needs
@@ -90,13 +93,14 @@ returns-2 c = let p = c .before .before .before .before .before .before .before 
     let k = p .plate-lines .kept .1 .1 .1 .1 in
     let n = wide g * high g in
     rw (take-at (l .0) _ n (k .0 ∙ length-take-le n _ (readings-fit g)), take-at (l .1 .0) _ n (k .1 .0 ∙ length-take-le n _ (words-fit g)))
-    (rw (stands-here (g .before .before .before .before .before .before .args .s .now) (p .plate-lines .result) (c .before .if1 .left)) at (whole p))
+    (rw (stands-here (g .before .before .before .before .before .before .before .args .s .now) (p .plate-lines .result) (c .before .if1 .left)) at (whole p))
 
 pub read-spec : {M : Type 1} → statement M
 read-spec =
     tie.close
     (tie.spec
     open-requires
+    edition-line-requires
     size-lines-requires
     setting-lines-requires
     mul-n

@@ -18,6 +18,9 @@ slice-aggregate-number-line-2 c = search needs
 number-line-requires-2 : tie.Need-number-line-requires-2
 number-line-requires-2 c κs = search needs
 
+ends-line-requires : tie.Need-ends-line-requires
+ends-line-requires c κs = search needs
+
 slice-aggregate-number-line-3 : tie.Need-slice-aggregate-number-line-3
 slice-aggregate-number-line-3 c = search needs
 
@@ -40,12 +43,14 @@ returns : tie.Need-returns
 unfolding settingLines
 returns c = let mode = c .before .before .before in
     let ways = mode .before .before in
-    let gaps = ways .before .before in
+    let ends = ways .before .before in
+    let gaps = ends .before in
     let length = gaps .before .before in
     record {
       told = sym (
           then-on _ (length .number-line .ensures)
           ∙ then-on _ (gaps .number-line2 .ensures)
+          ∙ then-on _ (ends .ends-line .ensures)
           ∙ then-on _ (ways .number-line3 .ensures)
           ∙ then-on _ (mode .number-line4 .ensures)
           ∙ then-on _ (c .before .number-line5 .ensures)
@@ -61,6 +66,7 @@ setting-lines-spec =
     number-line-requires
     slice-aggregate-number-line-2
     number-line-requires-2
+    ends-line-requires
     slice-aggregate-number-line-3
     number-line-requires-3
     slice-aggregate-number-line-4

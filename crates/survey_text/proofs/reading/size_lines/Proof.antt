@@ -1,16 +1,10 @@
--- `size_lines` reads three lines and has the size judged: the definition step by step.
+-- `size_lines` reads two lines and has the size judged: the definition step by step.
 use borrow.Author.Needs.{needs}
 use mathlib.Core.Path.{sym, _∙_}
 use Rattle.survey_text.specs.Reading.{sizeLines}
 use Rattle.survey_text.proofs.Steps.{then-on}
 use Rattle.survey_text.proofs.reading.size_lines.Statement.{statement}
 use Rattle.survey_text.proofs.reading.size_lines.Tie as tie
-
-slice-aggregate-bare-line : tie.Need-slice-aggregate-bare-line
-slice-aggregate-bare-line c = search needs
-
-bare-line-requires : tie.Need-bare-line-requires
-bare-line-requires c κs = search needs
 
 slice-aggregate-number-line : tie.Need-slice-aggregate-number-line
 slice-aggregate-number-line c = search needs
@@ -30,10 +24,10 @@ judge-size-requires c κs = search needs
 returns : tie.Need-returns
 unfolding sizeLines
 returns c = let size = c .judge-size .ensures in
-    let step = size .1 (c .before .before .before .before .before .before .before .before .args .s .now) in (
+    let step = size .1 (c .before .before .before .before .before .before .args .s .now) in (
       size .0,
       record {
-        told = step .told ∙ sym (then-on _ (c .before .before .before .before .before .bare-line .ensures) ∙ then-on _ (c .before .before .before .number-line .ensures) ∙ then-on _ (c .before .number-line2 .ensures));
+        told = step .told ∙ sym (then-on _ (c .before .before .before .number-line .ensures) ∙ then-on _ (c .before .number-line2 .ensures));
         counted = step .counted;
       },
     )
@@ -42,8 +36,6 @@ pub size-lines-spec : {M : Type 1} → statement M
 size-lines-spec =
     tie.close
     (tie.spec
-    slice-aggregate-bare-line
-    bare-line-requires
     slice-aggregate-number-line
     number-line-requires
     slice-aggregate-number-line-2

@@ -75,9 +75,9 @@ returns c =
     let f = c .before .before .before .before .before .before .before .before .before .before .before .follow in
     let g = c .before .before .before .before .follow2 in
     let l = a .found .before in
-    drawn (a .scan .width) (a .scan .height) _ _ (a .found .key) (a .scan .steps) (a .scan .setting .gaps) (a .x) l (a .found .gaps) (set (a .path .now) l (a .x)) (f .last .0) (g .last .0)
+    drawn (a .scan .slack) (a .scan .width) (a .scan .height) _ _ (a .found .key) (a .scan .steps) (a .scan .setting .gaps) (a .x) l (a .found .gaps) (set (a .path .now) l (a .x)) (f .last .0) (g .last .0)
     (t .of-path) (t .few) (omega (arith, length-set (a .path .now) l (a .x), s .pre .1 .0)) (getD-set-same (a .path .now) l (a .x) 0 (omega (arith, s .pre .1 .0, t .of-path)))
-    (f .ensures .0) (f .ensures .1) (g .ensures .0) (g .ensures .1)
+    (f .ensures .0) (f .ensures .1 .0) (f .ensures .1 .1) (g .ensures .0) (g .ensures .1 .0) (g .ensures .1 .1)
 
 pub draw-spec : {M : Type 1} → statement M
 draw-spec =

@@ -7,6 +7,7 @@ use lib.ListN.{length}
 use Rattle.plate.specs.Paths.{span}
 use Rattle.tracing.specs.Finding.{BestOf, keysBy}
 use Rattle.theory.specs.Modes.{Levels}
+use Rattle.theory.specs.BestWalks.{gapEnd}
 use Rattle.tracing.proofs.Directions.{usable-long}
 use Rattle.tracing.proofs.Searching.{lowest-attained}
 use Rattle.tracing.proofs.Finding.{accepted-still, best-first, best-more, best-skip}
@@ -45,7 +46,7 @@ loop-holds c =
     let u = s .pre .1 .1 .passes (s .pre .1 .0 .1) in
     let enough = usable-long (a .width) (a .height) (a .setting) (a .first) (s .pre .1 .0 .1) u in
     let attained =
-    lowest-attained (a .width) (a .height) (a .setting .length - 1) (a .setting .gaps) (span (a .width) (a .height) (2 ^ a .first) - a .setting .length) (keysBy (a .setting .mode) (a .plate .now)) (a .x) (a .first)
+    lowest-attained (gapEnd (a .setting .ends)) (a .width) (a .height) (a .setting .length - 1) (a .setting .gaps) (span (a .width) (a .height) (2 ^ a .first) - a .setting .length) (keysBy (a .setting .mode) (a .plate .now)) (a .x) (a .first)
     (s .pre .1 .0 .1) (s .pre .1 .0 .0) (omega (arith, enough, s .pre .0 .long)) (low .result .before) (low .ensures .2) in (
       omega arith,
       refl,

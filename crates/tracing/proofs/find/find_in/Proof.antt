@@ -88,9 +88,9 @@ returns c =
     let goes = c .before .before .before .before .before .note-side2 in
     let small = notes-small (a .scan .steps) (a .scan .setting .gaps) (s .pre .0 .few-steps) (s .pre .0 .few) in
     let is-own = key-read (a .scan) (a .plate .now) (a .x) (own .result) (c .before .before .before .before .before .before .before .before .before .before .before .before .before .before .before .before .key-by-arg .given) (omega (arith, s .pre .1)) (own .ensures) in
-    let ends′ = noted-apart (a .scan .width) (a .scan .height) (bitOf (a .scan)) true (keyOf (a .scan) (a .plate .now)) (a .scan .setting .gaps) (a .scan .steps) (a .x) 0 9216 _ _ _
+    let ends′ = noted-apart (a .scan .slack) (a .scan .width) (a .scan .height) (bitOf (a .scan)) true (keyOf (a .scan) (a .plate .now)) (a .scan .setting .gaps) (a .scan .steps) (a .x) 0 9216 _ _ _
     (goes .ensures .1 .0) (omega (arith, small)) (ends .ensures .0) in (
-      searched-found (a .scan .width) (a .scan .height) (a .scan .steps) (a .scan .setting .gaps) (a .scan .spare) (keyOf (a .scan) (a .plate .now)) (a .x)
+      searched-found (a .scan .slack) (a .scan .width) (a .scan .height) (a .scan .steps) (a .scan .setting .gaps) (a .scan .spare) (keyOf (a .scan) (a .plate .now)) (a .x)
           (a .scan .index)
           (s .pre .0 .known) (s .pre .1 .1) (s .pre .0 .long) _ (record { ends = 0; goes = 9216; steps = a .scan .steps; gaps = a .scan .setting .gaps })
           (own .result) refl refl is-own

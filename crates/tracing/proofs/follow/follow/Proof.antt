@@ -22,7 +22,7 @@ returns c =
     let f = c .before .before .follow-any in
     let low : ℕ → ℕ = λ t. lowAlong (a .backwards) (keyOf (a .scan) (a .plate .now)) t (f .last .0) (a .walk .start) (a .walk .steps + 1) in
     let none : low 0 ≡ 0 = low-along-zero (a .backwards) (keyOf (a .scan) (a .plate .now)) (f .last .0) (a .walk .start) (a .walk .steps + 1) in
-    (f .ensures, omega (arith, none, ap low (c .before .before .before .before .if1 .taken)))
+    (f .ensures, (omega (arith, none, ap low (c .before .before .before .before .if1 .taken)), omega (arith, c .before .before .before .before .if1 .taken)))
 
 follow-counted-requires : tie.Need-follow-counted-requires
 follow-counted-requires c κs = search needs

@@ -24,7 +24,7 @@ Inv-loop path₀ work₀ marks₀ held₀ below₀ plate scan backwards walk sig
     × (length below ≡ length below₀)
     × Kept scan backwards plate (getD path₀ (walk .start) 0) sight work marks stack
     × Stands scan backwards plate (getD path₀ (walk .start) 0) sight (walk .key) n stand
-    × Inward (scan .width) (scan .height) (bitOf scan) backwards (keyOf scan plate) (walk .key) path₀ (walk .start) (walk .steps) (walk .gaps) path n
+    × Inward (scan .slack) (scan .width) (scan .height) (bitOf scan) backwards (keyOf scan plate) (walk .key) path₀ (walk .start) (walk .steps) (walk .gaps) path n
     (placeOf sight stand) (stand .gaps)
 
 abbrev μ-loop : tie.MeasureT-loop
@@ -41,9 +41,9 @@ loop-holds c =
       refl,
       refl,
       p .0,
-      p .1 .1,
-      inward-far (a .scan .width) (a .scan .height) (bitOf (a .scan)) (a .backwards) (keyOf (a .scan) (a .plate .now)) (a .walk .key) (a .path .now) (a .walk .start)
-          (a .walk .steps) (a .walk .gaps) _ (a .end .gaps) (omega (arith, p .1 .0 .1)),
+      p .1 .1 .0,
+      inward-far (a .scan .slack) (a .scan .width) (a .scan .height) (bitOf (a .scan)) (a .backwards) (keyOf (a .scan) (a .plate .now)) (a .walk .key) (a .path .now) (a .walk .start)
+          (a .walk .steps) (a .walk .gaps) _ (a .end .gaps) (omega (arith, p .1 .0 .1)) (p .1 .1 .1),
     )
 
 place-of-requires : tie.Need-place-of-requires Inv-loop μ-loop

@@ -7,23 +7,26 @@ use native.Mathlib.Omega.{arith}
 use lib.ListN.{length, length-set}
 use Rattle.basics.proofs.Numbers.{rows-fit}
 use Rattle.states.proofs.SizeLaws.{row-small}
-use Rattle.tracing.specs.Noting.{Lifted, FromRow, rowCells}
+use Rattle.tracing.specs.Noting.{Lifted, FromRow, rowEnded}
 use Rattle.tracing.proofs.Noting.{row-lifted-none, row-lifted-more, highest-cells}
 use Rattle.tracing.proofs.notes.note_row.Statement.{statement}
 use Rattle.tracing.proofs.notes.note_row.Tie as tie
 
 abbrev Inv-loop : tie.InvT-loop
-Inv-loop notes₀ to work at plan n from₀ j₀ notes from j =
+Inv-loop notes₀ to work at plan slack n keys from₀ j₀ notes from j =
     (j ≤ plan .planes)
     × (from ≡ from₀ + j * plan .across)
     × (length notes ≡ length notes₀)
-    × Lifted (FromRow (rowCells work at (plan .across)) (from₀ - at) (from₀ - at + n) to j) notes₀ notes
+    × Lifted (FromRow (rowEnded work slack (keys - (from₀ - at)) at (plan .across)) (from₀ - at) (from₀ - at + n) to j) notes₀ notes
 
 abbrev μ-loop : tie.MeasureT-loop
-μ-loop notes₀ to work at plan n from₀ j₀ notes from j = plan .planes - j
+μ-loop notes₀ to work at plan slack n keys from₀ j₀ notes from j = plan .planes - j
 
 sub-n : tie.Need-sub-n Inv-loop μ-loop
 sub-n c = omega arith
+
+add-keys : tie.Need-add-keys Inv-loop μ-loop
+add-keys c = omega arith
 
 add-from : tie.Need-add-from Inv-loop μ-loop
 add-from c = omega arith
@@ -42,10 +45,12 @@ slice-read-highest c = omega arith
 
 highest-requires : tie.Need-highest-requires Inv-loop μ-loop
 highest-requires c κs =
-    let s = c .before .before .before .before .before .before .before .before in
+    let s = c .before .before .before .before .before .before .before .before .before in
     let a = s .args in
-    let l = c .before .before .before .loop in
-    omega (arith, s .pre, l .inv .1, rows-fit (l .j) 1 (a .plan .planes) (a .plan .across) (omega arith))
+    let l = c .before .before .before .loop in (
+      omega (arith, s .pre, l .inv .1, rows-fit (l .j) 1 (a .plan .planes) (a .plan .across) (omega arith)),
+      omega (arith, s .pre),
+    )
 
 add-notes : tie.Need-add-notes Inv-loop μ-loop
 add-notes c = omega arith
@@ -61,7 +66,7 @@ add-j c = omega arith
 
 add-from-2 : tie.Need-add-from-2 Inv-loop μ-loop
 add-from-2 c =
-    let s = c .before .before .before .before .before .before .before .before .before .before in
+    let s = c .before .before .before .before .before .before .before .before .before .before .before in
     let l = c .before .before .before .before .before .loop in
     omega (
       arith,
@@ -77,18 +82,19 @@ loop-less c = omega arith
 
 loop-again : tie.Need-loop-again Inv-loop μ-loop
 loop-again c =
-    let s = c .before .before .before .before .before .before .before .before .before .before in
+    let s = c .before .before .before .before .before .before .before .before .before .before .before in
     let a = s .args in
     let l = c .before .before .before .before .before .loop in
     let lo = a .at + a .row .lo - a .at in
-    let n = a .row .hi - a .row .lo in (
+    let n = a .row .hi - a .row .lo in
+    let key = a .row .at + a .row .lo - lo in (
       omega arith,
       omega (arith, l .inv .1, add-mul (l .j) 1 (a .plan .across)),
       length-set (l .notes) (a .to + l .j) _ ∙ l .inv .2,
-      row-lifted-more (rowCells (a .work .now) (a .at) (a .plan .across)) lo (lo + n) (a .to) (l .j) _ (a .notes .now) (l .notes) (omega
-          (arith, s .pre, l .inv .2))
-          (l .inv .3) (highest-cells (a .work .now) (a .at) (a .plan .across) (l .j) lo (lo + n) (l .from) n _ _ (omega arith) (omega arith) (omega
-          (arith, l .inv .1)) (c .before .highest .ensures)),
+      row-lifted-more (rowEnded (a .work .now) (a .slack) key (a .at) (a .plan .across)) lo (lo + n) (a .to) (l .j) _ (a .notes .now) (l .notes)
+          (omega (arith, s .pre, l .inv .2)) (l .inv .3)
+          (highest-cells (a .work .now) (a .slack) key (a .at) (a .plan .across) (l .j) lo (lo + n) (l .from) (a .row .at + a .row .lo) n _ _ (omega arith)
+          (omega arith) (omega (arith, l .inv .1)) (omega arith) (c .before .highest .ensures)),
     )
 
 same-length : tie.Need-same-length Inv-loop μ-loop
@@ -96,13 +102,14 @@ same-length c = omega arith
 
 returns : tie.Need-returns Inv-loop μ-loop
 returns c =
-    let s = c .before .before .before .before .before .before .before in
+    let s = c .before .before .before .before .before .before .before .before in
     let a = s .args in
     let l = c .before .before .loop in
     let all : l .j ≡ a .plan .planes = omega (arith, l .inv .0) in
     let first : a .at + a .row .lo - a .at ≡ a .row .lo = omega arith in
     let last : a .row .lo + (a .row .hi - a .row .lo) ≡ a .row .hi = omega (arith, s .pre) in
-    rw (all, first, last) at (l .inv .3)
+    let key : a .row .at + a .row .lo - a .row .lo ≡ a .row .at = omega arith in
+    rw (all, first, last, key) at (l .inv .3)
 
 pub note-row-spec : {M : Type 1} → statement M
 note-row-spec =
@@ -111,6 +118,7 @@ note-row-spec =
     Inv-loop
     μ-loop
     sub-n
+    add-keys
     add-from
     loop-holds
     add-highest

@@ -10,16 +10,16 @@ use Rattle.tracing.proofs.notes.note_side.Statement.{statement}
 use Rattle.tracing.proofs.notes.note_side.Tie as tie
 
 abbrev Inv-loop : tie.InvT-loop
-Inv-loop notes₀ to work₀ plate backwards x held₀ below₀ sight plan base e₀ notes work held below e =
+Inv-loop notes₀ to work₀ plate scan backwards x held₀ below₀ sight plan base e₀ notes work held below e =
     (e ≤ sight .states)
     × (length work ≡ length work₀)
     × (length held ≡ 18612)
     × (length below ≡ 1032)
     × (length notes ≡ length notes₀)
-    × SideNoted plan (sight .states) to base e work₀ work notes₀ notes
+    × SideNoted plan (scan .slack) (sight .states) to base e work₀ work notes₀ notes
 
 abbrev μ-loop : tie.MeasureT-loop
-μ-loop notes₀ to work₀ plate backwards x held₀ below₀ sight plan base e₀ notes work held below e = sight .states - e
+μ-loop notes₀ to work₀ plate scan backwards x held₀ below₀ sight plan base e₀ notes work held below e = sight .states - e
 
 sight-of-requires : tie.Need-sight-of-requires Inv-loop μ-loop
 sight-of-requires c κs = let s = c .before .before in (s .pre .0, s .pre .1 .0 .1)
@@ -54,7 +54,7 @@ fill-run-requires : tie.Need-fill-run-requires Inv-loop μ-loop
 fill-run-requires c κs = c .before .before .before .before .before .before .before .before .before .before .before .before .pre .1 .1 .0
 
 loop-holds : tie.Need-loop-holds Inv-loop μ-loop
-loop-holds c = (omega arith, refl, refl, refl, refl, side-none _ _ _ _ _ _)
+loop-holds c = (omega arith, refl, refl, refl, refl, side-none _ _ _ _ _ _ _)
 
 slice-aggregate-advance : tie.Need-slice-aggregate-advance Inv-loop μ-loop
 slice-aggregate-advance c = sym (c .before .before .before .before .loop .inv .2)
@@ -98,6 +98,7 @@ note-state-requires c κs =
         omega (arith, few, e),
         room .keys,
         omega (arith, room .alone, same),
+        omega arith,
         notes-fit (a .scan) (s .pre .0) (a .backwards) (a .x) (r .result) (r .ensures) (l .e) (a .to) _ e
             (omega (arith, s .pre .1 .1 .0, l .inv .4, i .before .before .before .fill-run .kept .0)),
       ),
@@ -138,7 +139,7 @@ loop-again c =
       ad .ensures .1 .0 ∙ l .inv .2,
       ad .ensures .1 .1 ∙ l .inv .3,
       n .kept .0 ∙ l .inv .4,
-      side-more (r .result .plan) (sight-sound (a .scan) (s .pre .0) (a .backwards) (a .x) (r .result) (r .ensures)) (r .result .states) (a .to) _
+      side-more (r .result .plan) (sight-sound (a .scan) (s .pre .0) (a .backwards) (a .x) (r .result) (r .ensures)) (a .scan .slack) (r .result .states) (a .to) _
           (l .e) _ (l .work) _ _
           (l .notes) _ (omega (arith, few, e)) e (omega arith) (l .inv .5) (ad .ensures .0) (n .ensures),
     )

@@ -7,20 +7,21 @@ use lib.ListN.{length}
 use Rattle.plans.specs.Plans.{rowsIn, rowSize}
 use Rattle.states.proofs.SizeLaws.{row-within}
 use Rattle.sweeps.proofs.StackLaws.{row-below, state-below}
-use Rattle.tracing.specs.Noting.{Lifted, FromState, stateCells}
+use Rattle.tracing.specs.Noting.{Lifted, FromState}
+use Rattle.tracing.specs.Endings.{endedIn}
 use Rattle.tracing.proofs.Noting.{steps-fit, state-lifted-none, state-lifted-more, row-in-state}
 use Rattle.tracing.proofs.notes.note_state.Statement.{statement}
 use Rattle.tracing.proofs.notes.note_state.Tie as tie
 
 abbrev Inv-loop : tie.InvT-loop
-Inv-loop notes₀ to work base plan e rows at₀ m₀ notes at m =
+Inv-loop notes₀ to work base plan e slack rows at₀ m₀ notes at m =
     (m ≤ rows)
     × (at ≡ base + m * rowSize plan)
     × (length notes ≡ length notes₀)
-    × Lifted (FromState plan (stateCells work base plan) to e m) notes₀ notes
+    × Lifted (FromState plan (endedIn work slack base plan e) to e m) notes₀ notes
 
 abbrev μ-loop : tie.MeasureT-loop
-μ-loop notes₀ to work base plan e rows at₀ m₀ notes at m = rows - m
+μ-loop notes₀ to work base plan e slack rows at₀ m₀ notes at m = rows - m
 
 rows-in-requires : tie.Need-rows-in-requires Inv-loop μ-loop
 rows-in-requires c κs = tt
@@ -42,7 +43,7 @@ mul-note-row c =
     omega (
       arith,
       steps-fit (a .plan) (a .e) (a .to) (length (a .notes .now)) (c .before .before .before .before .before .loop .m)
-          (c .before .before .before .steps-in .result) (s .pre .1 .3) (c .before .before .before .steps-in .ensures)
+          (c .before .before .before .steps-in .result) (s .pre .1 .4) (c .before .before .before .steps-in .ensures)
           (omega (arith, c .before .before .before .before .loop-test .taken, c .before .before .before .before .before .before .rows-in .ensures)),
       s .good,
     )
@@ -54,7 +55,7 @@ add-note-row c =
     omega (
       arith,
       steps-fit (a .plan) (a .e) (a .to) (length (a .notes .now)) (c .before .before .before .before .before .loop .m)
-          (c .before .before .before .steps-in .result) (s .pre .1 .3) (c .before .before .before .steps-in .ensures)
+          (c .before .before .before .steps-in .result) (s .pre .1 .4) (c .before .before .before .steps-in .ensures)
           (omega (arith, c .before .before .before .before .loop-test .taken, c .before .before .before .before .before .before .rows-in .ensures)),
       s .good,
     )
@@ -76,9 +77,11 @@ note-row-requires c κs =
         omega (
           arith,
           steps-fit (a .plan) (a .e) (a .to) (length (a .notes .now)) (l .m) (c .before .before .before .steps-in .result)
-              (s .pre .1 .3) (c .before .before .before .steps-in .ensures) below,
+              (s .pre .1 .4) (c .before .before .before .steps-in .ensures) below,
           l .inv .2,
         ),
+        omega (arith, row .2, fits .keyed, s .pre .1 .1, s .pre .1 .3),
+        omega (arith, row .2, fits .keyed, s .pre .1 .2, s .pre .1 .3),
       ),
     )
 
@@ -123,8 +126,8 @@ loop-again c =
       omega (arith, c .before .before .before .before .before .before .before .before .loop-test .taken),
       omega (arith, l .inv .1, add-mul (l .m) 1 (rowSize (a .plan))),
       n .kept .0 ∙ l .inv .2,
-      state-lifted-more (a .plan) (stateCells (a .work .now) (a .base) (a .plan)) (a .to) (a .e) (l .m) (a .notes .now) (l .notes) _ (l .inv .3)
-          (row-in-state (a .plan) (a .to) (a .e) (l .m) (l .at) (a .base) _ _ _ (a .work .now) (l .notes) _ (l .inv .1) (row .ensures .0) (row .ensures .1)
+      state-lifted-more (a .plan) (endedIn (a .work .now) (a .slack) (a .base) (a .plan) (a .e)) (a .to) (a .e) (l .m) (a .notes .now) (l .notes) _ (l .inv .3)
+          (row-in-state (a .plan) (a .slack) (a .to) (a .e) (l .m) (l .at) (a .base) _ _ _ _ (a .work .now) (l .notes) _ (l .inv .1) (row .ensures .0) (row .ensures .1) (row .ensures .2)
           (c .before .before .before .before .before .before .before .steps-in .ensures) (n .ensures)),
     )
 

@@ -33,9 +33,16 @@ returns-4 : tie.Need-returns-4
 unfolding settingVerdict judged
 returns-4 c = simp (sym (c .before .before .before .before .before .before .before .bad-length .ensures) ∙ c .before .before .before .before .before .before .if1 .left, sym (c .before .before .before .before .before .bad-gaps .ensures) ∙ c .before .before .before .before .if2 .left, sym (c .before .before .before .bad-directions .ensures) ∙ c .before .before .if3 .left, sym (c .before .bad-mode .ensures) ∙ c .if4 .taken)
 
+bad-ends-requires : tie.Need-bad-ends-requires
+bad-ends-requires c κs = search needs
+
 returns-5 : tie.Need-returns-5
 unfolding settingVerdict judged
-returns-5 c = simp (sym (c .before .before .before .before .before .before .before .bad-length .ensures) ∙ c .before .before .before .before .before .before .if1 .left, sym (c .before .before .before .before .before .bad-gaps .ensures) ∙ c .before .before .before .before .if2 .left, sym (c .before .before .before .bad-directions .ensures) ∙ c .before .before .if3 .left, sym (c .before .bad-mode .ensures) ∙ c .if4 .left)
+returns-5 c = simp (sym (c .before .before .before .before .before .before .before .before .before .bad-length .ensures) ∙ c .before .before .before .before .before .before .before .before .if1 .left, sym (c .before .before .before .before .before .before .before .bad-gaps .ensures) ∙ c .before .before .before .before .before .before .if2 .left, sym (c .before .before .before .before .before .bad-directions .ensures) ∙ c .before .before .before .before .if3 .left, sym (c .before .before .before .bad-mode .ensures) ∙ c .before .before .if4 .left, sym (c .before .bad-ends .ensures) ∙ c .if5 .taken)
+
+returns-6 : tie.Need-returns-6
+unfolding settingVerdict judged
+returns-6 c = simp (sym (c .before .before .before .before .before .before .before .before .before .bad-length .ensures) ∙ c .before .before .before .before .before .before .before .before .if1 .left, sym (c .before .before .before .before .before .before .before .bad-gaps .ensures) ∙ c .before .before .before .before .before .before .if2 .left, sym (c .before .before .before .before .before .bad-directions .ensures) ∙ c .before .before .before .before .if3 .left, sym (c .before .before .before .bad-mode .ensures) ∙ c .before .before .if4 .left, sym (c .before .bad-ends .ensures) ∙ c .if5 .left)
 
 pub checked-spec : {M : Type 1} → statement M
 checked-spec =
@@ -49,4 +56,6 @@ checked-spec =
     returns-3
     bad-mode-requires
     returns-4
-    returns-5)
+    bad-ends-requires
+    returns-5
+    returns-6)

@@ -2,31 +2,31 @@
 use Prim.Native.Nat.{ℕ, _+_, _-_, _≤_, _<_}
 use native.Mathlib.Omega.{arith}
 use borrow.Author.Count.{below-more}
-use borrow.Author.Needs.{needs}
-use lib.ListN.{getD}
-use Rattle.tracing.proofs.follow.first_of.Statement.{statement}
-use Rattle.tracing.proofs.follow.first_of.Tie as tie
+use Rattle.tracing.specs.Endings.{endedAt}
+use Rattle.tracing.proofs.far_end.first_of.Statement.{statement}
+use Rattle.tracing.proofs.far_end.first_of.Tie as tie
 
 abbrev Inv-loop : tie.InvT-loop
-Inv-loop work at n t x₀ x = (x ≤ n) × ((k : ℕ) → k < x → getD work (at + k) 0 < t)
+Inv-loop work at keys n t slack x₀ x = (x ≤ n) × ((k : ℕ) → k < x → endedAt work slack (keys + k) (at + k) < t)
 
 abbrev μ-loop : tie.MeasureT-loop
-μ-loop work at n t x₀ x = n - x
+μ-loop work at keys n t slack x₀ x = n - x
 
 loop-holds : tie.Need-loop-holds Inv-loop μ-loop
 loop-holds c = (omega arith, λ k l. absurd (omega arith))
 
-add-if1 : tie.Need-add-if1 Inv-loop μ-loop
-add-if1 c = search needs
+add-ended-at : tie.Need-add-ended-at Inv-loop μ-loop
+add-ended-at c = omega arith
 
-mul-if1 : tie.Need-mul-if1 Inv-loop μ-loop
-mul-if1 c = search needs
+add-ended-at-2 : tie.Need-add-ended-at-2 Inv-loop μ-loop
+add-ended-at-2 c = omega arith
 
-shared-slice-read-if1 : tie.Need-shared-slice-read-if1 Inv-loop μ-loop
-shared-slice-read-if1 c = search needs
+ended-at-requires : tie.Need-ended-at-requires Inv-loop μ-loop
+ended-at-requires c κs = (omega arith, omega arith)
 
 returns : tie.Need-returns Inv-loop μ-loop
-returns c = (omega arith, λ l. c .if1 .taken, c .before .before .before .loop .inv .1)
+returns c =
+    (omega arith, λ l. omega (arith, c .if1 .taken, c .before .ended-at .ensures), c .before .before .before .loop .inv .1)
 
 add-x : tie.Need-add-x Inv-loop μ-loop
 add-x c = omega arith
@@ -35,7 +35,8 @@ loop-less : tie.Need-loop-less Inv-loop μ-loop
 loop-less c = omega arith
 
 loop-again : tie.Need-loop-again Inv-loop μ-loop
-loop-again c = (omega arith, below-more _ _ (c .before .before .before .loop .inv .1) (omega arith))
+loop-again c =
+    (omega arith, below-more _ _ (c .before .before .before .loop .inv .1) (omega (arith, c .if1 .left, c .before .ended-at .ensures)))
 
 returns-2 : tie.Need-returns-2 Inv-loop μ-loop
 returns-2 c =
@@ -49,9 +50,9 @@ first-of-spec =
     Inv-loop
     μ-loop
     loop-holds
-    add-if1
-    mul-if1
-    shared-slice-read-if1
+    add-ended-at
+    add-ended-at-2
+    ended-at-requires
     returns
     add-x
     loop-less
