@@ -3,8 +3,9 @@
  * A crack on a photographed wall is long, thin and seldom straight. A path opening keeps, at every
  * pixel, only the brightness that lies on some long path through it; a closing does the same for
  * dark cracks. This library corrects a plate of readings, opens or closes it, and traces the path
- * through a pixel of your choice. Its results are exact: the code is proved, for every input, to give
- * what the comments below say.
+ * through a pixel of your choice; of a plate that poor light leaves between two levels it tells what
+ * can be left of it at least and at most. Its results are exact: the code is proved, for every input,
+ * to give what the comments below say.
  *
  *
  * PLATES
@@ -54,9 +55,9 @@
  *
  * REFUSALS
  *
- * Every function answers every input. diilvak_check_setting, diilvak_correct, diilvak_filter and
- * diilvak_trace return 0 where the call is done, and otherwise the number of the first cause in this
- * table that applies to the call (18 is the newest, and stands where it is judged):
+ * Every function answers every input. diilvak_check_setting, diilvak_correct, diilvak_filter,
+ * diilvak_filter_between and diilvak_trace return 0 where the call is done, and otherwise the number of
+ * the first cause in this table that applies to the call (18 stands where it is judged):
  *
  *     1   width or height is 0 or above 1024, or width * height is above 65536
  *     2   length is 0 or above 1024
@@ -65,16 +66,17 @@
  *     5   mode is above 1
  *     18  ends is above 1
  *     6   an input buffer does not have exactly width * height numbers
- *     7   the result does not have exactly width * height numbers, or the path not exactly length
+ *     7   a result does not have exactly width * height numbers, or the path not exactly length
  *     8   the work buffer has less than 4 * (gaps + 1) * width * height numbers
  *     9   a reading is above DIILVAK_MAX_READING
  *     10  a correction is below DIILVAK_MIN_CORRECTION or above DIILVAK_MAX_CORRECTION
  *     11  the traced place is not below width * height
  *     12  no path of that length, in one of the directions, goes through the pixel
+ *     20  a level of the lowest plate is above that of the highest
  *
  * A refused call leaves every buffer and number that was lent to it as it was, but for the place that
- * diilvak_correct reports. Sizes and settings are size_t: a negative number turns into a large one
- * and is refused.
+ * diilvak_correct and diilvak_filter_between report. Sizes and settings are size_t: a negative number
+ * turns into a large one and is refused.
  *
  * The results of the other three functions are no refusal numbers: diilvak_step returns whether there
  * is such a step, 1 or 0, diilvak_work_length a length, which is 0 for a size or a gap count that would
@@ -89,9 +91,10 @@
  * without const) overlaps nothing else that is lent to the same call.
  *
  * The library allocates nothing, keeps nothing between calls, and touches no memory but what it is
- * lent and its own stack. A filter finds room in DIILVAK_FILTER_STACK bytes of stack and a trace in
- * DIILVAK_TRACE_STACK, whatever the plate and the setting; the other calls take next to nothing. Where a
- * thread has less left, the call runs past its end, which the library cannot tell.
+ * lent and its own stack. A filter finds room in DIILVAK_FILTER_STACK bytes of stack, between two plates
+ * too, since it takes one after the other, and a trace in DIILVAK_TRACE_STACK, whatever the plate and the
+ * setting; the other calls take next to nothing. Where a thread has less left, the call runs past its
+ * end, which the library cannot tell.
  *
  * Calls may run at the same time in several threads, as long as none writes what another is lent. Work,
  * path and result buffers need not be cleared: what they held never changes an answer.
@@ -106,8 +109,8 @@
 extern "C" {
 #endif
 
-/* The version of this header, 0.4.0, as one number: major * 10000 + minor * 100 + patch. */
-#define DIILVAK_VERSION 400
+/* The version of this header, 0.5.0, as one number: major * 10000 + minor * 100 + patch. */
+#define DIILVAK_VERSION 500
 
 /* Limits. */
 #define DIILVAK_MAX_SIDE 1024
@@ -154,6 +157,7 @@ extern "C" {
 #define DIILVAK_BAD_PLACE 11
 #define DIILVAK_NO_PATH 12
 #define DIILVAK_BAD_ENDS 18
+#define DIILVAK_BAD_BOUNDS 20
 
 /* The version of the library: DIILVAK_VERSION as it was when the library was built.
  *
@@ -168,7 +172,8 @@ size_t diilvak_version(void);
  */
 size_t diilvak_check_setting(size_t length, size_t gaps, size_t directions, size_t mode, size_t ends);
 
-/* How many numbers the work buffer of a filter or a trace needs: 4 * (gaps + 1) * width * height.
+/* How many numbers the work buffer of a filter, between two plates too, or of a trace needs:
+ * 4 * (gaps + 1) * width * height.
  *
  * Returns 0 where refusal 1 forbids the size or gaps is above 8. Nothing is written.
  */
@@ -225,6 +230,50 @@ size_t diilvak_filter(size_t width, size_t height,
                       size_t length, size_t gaps, size_t directions, size_t mode, size_t ends,
                       int16_t *result, size_t result_len,
                       uint16_t *work, size_t work_len);
+
+/* Opens (mode 0) or closes (mode 1) a plate that is known between two levels: in poor light each pixel
+ * has a lowest level and a highest, and the true plate may have any level between them.
+ *
+ * lowest           width * height levels: the lowest that each pixel can have
+ * highest          width * height levels: the highest that each pixel can have
+ * lowest_result    room for width * height levels
+ * highest_result   room for width * height levels
+ * work             room for at least diilvak_work_length(width, height, gaps) numbers, used for one plate
+ *                  after the other
+ * place            the place that a refusal reports
+ *
+ * Returns 0, and then, by this setting, in either mode,
+ *   - lowest_result is what diilvak_filter gives for lowest, and highest_result what it gives for highest;
+ *   - every plate that is at no pixel below lowest or above highest is filtered to one that is at no pixel
+ *     below lowest_result or above highest_result;
+ *   - both results are reached by such plates, at every pixel, so that no closer ones would do.
+ *
+ * Or it returns
+ *     1    bad size
+ *     2    length is 0 or above 1024
+ *     3    gaps is above 8, or not less than length
+ *     4    directions is 0 or above 15
+ *     5    mode is above 1
+ *     18   ends is above 1
+ *     6    lowest_len or highest_len is not width * height
+ *     7    lowest_result_len or highest_result_len is not width * height
+ *     8    work_len is less than 4 * (gaps + 1) * width * height
+ *     20   a level of lowest is above that of highest; *place is the first such place
+ * in this order. *place is written by every call, and is 0 where the result is not 20. A refused call
+ * leaves both results and work as they were; after a call that is done, what work holds is of no use.
+ * lowest and highest are only read, and may be the same buffer.
+ *
+ * Example: lowest 9, 5, 12, 8 and highest 9, 6, 12, 9, opened with length 4, gaps 1 and direction east,
+ * give 8, 5, 8, 8 and 9, 6, 9, 9.
+ */
+size_t diilvak_filter_between(size_t width, size_t height,
+                              const int16_t *lowest, size_t lowest_len,
+                              const int16_t *highest, size_t highest_len,
+                              size_t length, size_t gaps, size_t directions, size_t mode, size_t ends,
+                              int16_t *lowest_result, size_t lowest_result_len,
+                              int16_t *highest_result, size_t highest_result_len,
+                              uint16_t *work, size_t work_len,
+                              size_t *place);
 
 /* Traces a path through the pixel at a place.
  *

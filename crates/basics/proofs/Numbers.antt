@@ -1,5 +1,5 @@
--- General laws of natural numbers, for what `omega` does not find by itself: the cases of an order, of a maximum and of a small number, and the
--- equality of two numbers or two tests from both directions.
+-- General laws of natural numbers, for what `omega` does not find by itself: the cases of an order, of a maximum and of a small number, one number
+-- more, and the equality of two numbers or two tests from both directions.
 use Prim.Native.Nat.{ℕ, zero, suc, _+_, _-_, _*_, _≤_, _<_, max}
 use mathlib.Core.Path.{_≡_, refl, sym, subst}
 use mathlib.Core.Logic.{_⊎_, inl, inr, ⊎-elim, by-cases}
@@ -11,6 +11,10 @@ use borrow.Author.Tests.{lt-ltb, le-ltb}
 
 pub le-or-lt : (a b : ℕ) → (a ≤ b) ⊎ (b < a)
 le-or-lt a b = by-cases (decLe a b) inl (λ n. inr (omega arith))
+
+-- what holds below n and at n holds below n + 1
+pub below-more : (P : ℕ → Type 0) (n : ℕ) → P n → ((i : ℕ) → i < n → P i) → (i : ℕ) → i < n + 1 → P i
+below-more P n here before i h = ⊎-elim (λ e. let same : n ≡ i = omega arith in subst P same here) (before i) (le-or-lt n i)
 
 -- what is not above a maximum is not above one of the two
 pub le-max-split : (t a b : ℕ) → t ≤ max a b → (t ≤ a) ⊎ (t ≤ b)

@@ -7,9 +7,11 @@ ghost use mathlib.Core.Path.{_≡_};
 ghost use lib.ListN.{length as size};
 ghost use Rattle.plate.specs.Levels.{correctedPlate};
 ghost use Rattle.plate.specs.Opening.{filtered};
-ghost use Rattle.plate.specs.Refusals.{settingVerdict, correctionVerdict, filterVerdict, traceVerdict};
-ghost use Rattle.plate.specs.Answers.{walked};
+ghost use Rattle.plate.specs.Refusals.{ifAccepted, settingVerdict, correctionVerdict, filterVerdict, traceVerdict};
+ghost use Rattle.plate.specs.Answers.{answered, walked};
 ghost use Rattle.theory.specs.Trace.{Shows};
+ghost use Rattle.theory.specs.Between.{Bounds};
+ghost use Rattle.between.specs.Refusals.{betweenVerdict};
 ghost use Rattle.diilvak.specs.Numbers.{settingOf, numberOf, placeOf, lentAfter, freeAfter, levelAfter, shownAfter, hasMoved, placeAfter, workLength};
 ghost use Rattle.diilvak.specs.Version.{version};
 use plate::Answer;
@@ -19,8 +21,8 @@ use plate::Setting;
 use plate::Traced;
 use plate::Walker;
 
-// This version, 0.4.0, as one number: major * 10000 + minor * 100 + patch.
-const VERSION: usize = 400;
+// This version, 0.5.0, as one number: major * 10000 + minor * 100 + patch.
+const VERSION: usize = 500;
 
 // The version that a program runs with, for callers to hold to that of their header.
 #[no_mangle]
@@ -48,6 +50,23 @@ pub extern "C" fn diilvak_check_setting(
     }
 }
 
+// The number of an answer, and its place in a lent number; both are 0 where the call is done.
+fn tell(answer: Answer, place: &mut usize) -> usize
+    ensures { λ r. ⌜ r ≡ numberOf (answered answer) ⌝ }
+    ensures { λ r. ⌜ now (place .exit) ≡ placeOf (answered answer) ⌝ }
+{
+    match answer {
+        Answer::Done => {
+            *place = 0;
+            0
+        }
+        Answer::Refused { number, place: at } => {
+            *place = at;
+            number
+        }
+    }
+}
+
 // Each reading plus its signed correction; `place` gets the refusal's place, 0 where there is none.
 #[no_mangle]
 pub extern "C" fn diilvak_correct(
@@ -63,16 +82,7 @@ pub extern "C" fn diilvak_correct(
     ensures { λ r. ⌜ now (place .exit) ≡ placeOf (correctionVerdict width height (now (readings .entry)) (now (words .entry)) (size (now (result .entry)))) ⌝ }
 {
     let answer = plate::correct(width, height, readings, words, result);
-    match answer {
-        Answer::Done => {
-            *place = 0;
-            0
-        }
-        Answer::Refused { number, place: at } => {
-            *place = at;
-            number
-        }
-    }
+    tell(answer, place)
 }
 
 // 1 and the place that the numbered step leads to, or 0 where it leaves.
@@ -149,6 +159,42 @@ pub extern "C" fn diilvak_filter(
         Answer::Done => 0,
         Answer::Refused { number, place: _ } => number,
     }
+}
+
+// The filtered lowest plate in `low` and the filtered highest in `high`, between which every plate between
+// the two filters; `place` gets the refusal's place, 0 where there is none.
+#[no_mangle]
+pub extern "C" fn diilvak_filter_between(
+    width: usize,
+    height: usize,
+    lowest: &[i16],
+    highest: &[i16],
+    length: usize,
+    gaps: usize,
+    directions: usize,
+    mode: usize,
+    ends: usize,
+    low: &mut [i16],
+    high: &mut [i16],
+    work: &mut [u16],
+    place: &mut usize,
+) -> usize
+    ensures { λ r. ⌜ r ≡ numberOf (betweenVerdict width height (settingOf length gaps directions mode ends) (now (lowest .entry)) (now (highest .entry)) (size (now (low .entry))) (size (now (high .entry))) (size (now (work .entry)))) ⌝ }
+    ensures { λ r. ⌜ now (low .exit) ≡ lentAfter (betweenVerdict width height (settingOf length gaps directions mode ends) (now (lowest .entry)) (now (highest .entry)) (size (now (low .entry))) (size (now (high .entry))) (size (now (work .entry)))) (filtered (settingOf length gaps directions mode ends) width height (now (lowest .entry))) (now (low .entry)) ⌝ }
+    ensures { λ r. ⌜ now (high .exit) ≡ lentAfter (betweenVerdict width height (settingOf length gaps directions mode ends) (now (lowest .entry)) (now (highest .entry)) (size (now (low .entry))) (size (now (high .entry))) (size (now (work .entry)))) (filtered (settingOf length gaps directions mode ends) width height (now (highest .entry))) (now (high .entry)) ⌝ }
+    ensures { λ r. ⌜ freeAfter (betweenVerdict width height (settingOf length gaps directions mode ends) (now (lowest .entry)) (now (highest .entry)) (size (now (low .entry))) (size (now (high .entry))) (size (now (work .entry)))) (now (work .entry)) (now (work .exit)) ⌝ }
+    ensures { λ r. ⌜ now (place .exit) ≡ placeOf (betweenVerdict width height (settingOf length gaps directions mode ends) (now (lowest .entry)) (now (highest .entry)) (size (now (low .entry))) (size (now (high .entry))) (size (now (work .entry)))) ⌝ }
+    ensures { λ r. ⌜ ifAccepted (betweenVerdict width height (settingOf length gaps directions mode ends) (now (lowest .entry)) (now (highest .entry)) (size (now (low .entry))) (size (now (high .entry))) (size (now (work .entry)))) (Bounds (settingOf length gaps directions mode ends) width height (now (lowest .entry)) (now (highest .entry)) (now (low .exit)) (now (high .exit))) ⌝ }
+{
+    let setting = Setting {
+        length: length,
+        gaps: gaps,
+        directions: directions,
+        mode: mode,
+        ends: ends,
+    };
+    let answer = between::filter_between(width, height, lowest, highest, setting, low, high, work);
+    tell(answer, place)
 }
 
 // The path of best level through the pixel at `at`: its places in `path`, its direction's bit and the

@@ -1,6 +1,7 @@
-// Tests the filter by document 01's worked plates (section 7), those of sieving twice (sieving.rt) and those
-// of a crack's ends (ends.rt): each prints its name and its filtered levels; the file stdout beside src/ has
+// Tests the filter by document 01's worked plates (section 7), those of sieving twice (sieving.rt), those of
+// a crack's ends (ends.rt) and those known between two levels (bounds.rt): each prints its name and its filtered levels; the file stdout beside src/ has
 // what the papers say.
+mod bounds;
 mod ends;
 mod printing;
 mod settings;
@@ -23,6 +24,7 @@ fn main() {
     two_rows();
     sieving::sieve_rows();
     ends::end_rows();
+    bounds::bound_rows();
 }
 
 fn filter_one(name: &[u8], level: i16, s: Setting) {

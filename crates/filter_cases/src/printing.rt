@@ -1,4 +1,4 @@
-// Prints a filtered plate, or the refusal.
+// Prints a filtered plate, or two, or the refusal.
 use libc::STDOUT_FILENO;
 use plate::Answer;
 
@@ -24,12 +24,33 @@ pub(crate) fn print_answer(answer: Answer, levels: &[i16]) {
     io::write_all(STDOUT_FILENO, b": ");
     match answer {
         Answer::Done => print_levels(levels),
-        Answer::Refused { number, place: _ } => {
-            io::write_all(STDOUT_FILENO, b"refused ");
-            io::print_decimal(STDOUT_FILENO, number as u64);
+        Answer::Refused { number, place: _ } => print_refused(number),
+    }
+    io::write_all(STDOUT_FILENO, b"\n");
+}
+
+// "NAME: level,level,.. to level,level,.." or "NAME: refused NUMBER at PLACE", and a newline.
+pub(crate) fn print_bounds(name: &[u8], answer: Answer, lowest: &[i16], highest: &[i16]) {
+    io::write_all(STDOUT_FILENO, name);
+    io::write_all(STDOUT_FILENO, b": ");
+    match answer {
+        Answer::Done => {
+            print_levels(lowest);
+            io::write_all(STDOUT_FILENO, b" to ");
+            print_levels(highest);
+        }
+        Answer::Refused { number, place } => {
+            print_refused(number);
+            io::write_all(STDOUT_FILENO, b" at ");
+            io::print_decimal(STDOUT_FILENO, place as u64);
         }
     }
     io::write_all(STDOUT_FILENO, b"\n");
+}
+
+fn print_refused(number: usize) {
+    io::write_all(STDOUT_FILENO, b"refused ");
+    io::print_decimal(STDOUT_FILENO, number as u64);
 }
 
 fn print_levels(levels: &[i16]) {

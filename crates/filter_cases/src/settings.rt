@@ -27,11 +27,16 @@ pub(crate) fn setting(mode: usize, directions: usize, length: usize, gaps: usize
 
 // The same where a path must end on crack (document 02, N5).
 pub(crate) fn crack_ended(s: Setting) -> Setting {
+    with_ends(s, 1)
+}
+
+// The same with other ends, right or wrong.
+pub(crate) fn with_ends(s: Setting, ends: usize) -> Setting {
     Setting {
         length: s.length,
         gaps: s.gaps,
         directions: s.directions,
         mode: s.mode,
-        ends: 1,
+        ends,
     }
 }

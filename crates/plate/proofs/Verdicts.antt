@@ -26,7 +26,8 @@ accepted-clear (c ∷ cs) a v e =
 
 -- ---- checks in a row
 
-clash : {A B : Type 0} {a : A} {n p : ℕ} → accepted a ≡ refused n p → B
+-- accepted is not refused
+pub clash : {A B : Type 0} {a : A} {n p : ℕ} → accepted a ≡ refused n p → B
 clash e = absurd (let z : _≡_ {A = ℕ} 0 1 = cc in omega arith)
 
 -- where those that come first refuse they decide, whatever the call returns
@@ -59,3 +60,11 @@ clear-both (c ∷ cs) ds h k = (h .0, clear-both cs ds (h .1) k)
 pub clear-first : (cs ds : List Check) → Clear (cs ++ ds) → Clear cs
 clear-first [] ds h = tt
 clear-first (c ∷ cs) ds h = (h .0, clear-first cs ds (h .1))
+
+-- other checks after the same ones: where they come to the same once those have passed, so does the whole row
+pub same-after :
+    {A : Type 0} (a : A) (cs ds es : List Check) → (Clear cs → judged ds a ≡ judged es a) → judged (cs ++ ds) a ≡ judged (cs ++ es) a
+unfolding judged
+same-after a [] ds es same = same tt
+same-after a (c ∷ cs) ds es same =
+    ⊎-elim (λ t. rw t) (λ t. rw t (same-after a cs ds es (λ h. same (t, h)))) (true-or-false (c .refuses))

@@ -48,3 +48,7 @@ refusalLarge = 14
 -- document 02, N5
 abbrev pub refusalEnds : ℕ
 refusalEnds = 18
+
+-- document 02, N7: a pixel whose lowest level is above its highest
+abbrev pub refusalBounds : ℕ
+refusalBounds = 20

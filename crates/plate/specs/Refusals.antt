@@ -35,6 +35,11 @@ unfoldable pub judged : {A : Type 0} → List Check → A → Verdict A
 judged [] a = accepted a
 judged (c ∷ cs) a = cond (c .refuses) (refused (c .number) (c .place)) (judged cs a)
 
+-- what an accepted call promises; a refused one promises nothing of this kind
+abbrev pub ifAccepted : {A : Type 0} → Verdict A → Type 0 → Type 0
+ifAccepted (accepted a) promise = promise
+ifAccepted (refused number place) promise = Unit
+
 -- none of the checks refuses
 abbrev pub Clear : List Check → Type 0
 Clear [] = Unit

@@ -30,3 +30,5 @@ pub const LINE: usize = 13;
 pub const TEXT: usize = 14;
 
 pub const ENDS: usize = 18;
+
+pub const BOUNDS: usize = 20;

@@ -18,6 +18,7 @@ pub mod Idempotent
 pub mod Mirror
 pub mod Longer
 pub mod SievingTwice
+pub mod Between
 -- the decomposition
 pub mod Maxima
 pub mod LevelSets

@@ -1,4 +1,5 @@
--- Document 01, section 7: the worked plates marked P, as one table, P2's refused trace in it; and those of document 02, N5, with both values of `ends`.
+-- Document 01, section 7: the worked plates marked P, as one table, P2's refused trace in it; and those of document 02: N5's, with both values of `ends`, and N7's, each of
+-- which is the lowest or the highest plate of a pair.
 -- proofs/WorkedPlates.antt shows that the definitions give these values.
 use Prim.Native.Nat.{ℕ, _+_, _*_}
 use mathlib.Core.Bool.{Bool, true, false, _&&_}
@@ -67,6 +68,13 @@ gap-first-dark = pos 12 ∷ pos 5 ∷ pos 9 ∷ pos 8 ∷ []
 abbrev two-gaps : List ℤ
 two-gaps = pos 9 ∷ pos 1 ∷ pos 9 ∷ pos 9 ∷ pos 1 ∷ []
 
+-- N7's highest plates, of which Q and gap-first are the lowest
+abbrev Q-high : List ℤ
+Q-high = pos 9 ∷ pos 6 ∷ pos 12 ∷ pos 9 ∷ []
+
+abbrev gap-first-high : List ℤ
+gap-first-high = pos 7 ∷ pos 9 ∷ pos 13 ∷ pos 8 ∷ []
+
 -- P2 gives its one pixel no level
 abbrev one-pixel : List ℤ
 one-pixel = pos 3 ∷ []
@@ -96,6 +104,11 @@ workedPlates =
     ∷ filters (crackEnded (setting opening all-four 1 0)) 1 1 one-pixel one-pixel  -- N5: one pixel is both ends
     ∷ filters (crackEnded (setting opening all-four 2 1)) 1 1 one-pixel (low ∷ [])  -- N5
     ∷ refuses (crackEnded (setting opening all-four 2 1)) 1 1 one-pixel 0 12  -- N5: 12 does not depend on `ends`
+    ∷ filters (setting opening east 4 1) 4 1 Q-high (pos 9 ∷ pos 6 ∷ pos 9 ∷ pos 9 ∷ [])  -- N7, over P3
+    ∷ filters (setting closing east 4 1) 4 1 Q-high (pos 9 ∷ pos 9 ∷ pos 12 ∷ pos 9 ∷ [])  -- N7, over P5
+    ∷ filters (crackEnded (setting opening east 4 1)) 4 1 gap-first-high (pos 7 ∷ pos 7 ∷ pos 7 ∷ pos 7 ∷ [])  -- N7, over N5's
+    ∷ filters (setting opening east 5 1) 4 1 Q (low ∷ low ∷ low ∷ low ∷ [])  -- N7: no path of five pixels
+    ∷ filters (setting opening east 5 1) 4 1 Q-high (low ∷ low ∷ low ∷ low ∷ [])  -- N7
     ∷ []
 
 unfoldable pub sameLevel : ℤ → ℤ → Bool

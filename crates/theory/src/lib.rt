@@ -16,6 +16,7 @@
 //   Mirror             all these carry over to mode 1, by one lemma on the mirror (filtered-as-mode)
 //   Longer             a longer length keeps no more, where ends may be gaps
 //   SievingTwice       filtering by two lengths is one filtering by the larger
+//   Between            a plate between two others filters to something between what these filter to
 //   Maxima, LevelSets  the level-set lemma: the recursion over keys finds just the walks that are there
 //   Splitting          the splitting lemma: a walk through a pixel by its two halves, whose counts add up
 //   Decomposition      the decomposition: the best pair of halves is the opened level

@@ -1,5 +1,5 @@
 //! The plates and texts that tests run on: those of the papers, and random plates with their settings.
-use crate::plate::{CLOSING, EAST, NORTH, NORTH_EAST, OPENING, SOUTH_EAST};
+use crate::plate::{ANYWHERE, CLOSING, EAST, NORTH, NORTH_EAST, ON_CRACK, OPENING, SOUTH_EAST};
 use crate::random::{plate, Kind, Random, KINDS};
 use crate::{Plate, Setting};
 
@@ -57,6 +57,26 @@ pub fn worked_ends() -> Vec<(Plate, Setting, [Vec<i16>; 2])> {
         row(&[9, 5, 12, 8], [4, 1, OPENING], [&[8, 5, 8, 8], &[8, 5, 8, 8]]),
         row(&[3], [1, 0, OPENING], [&[3], &[3]]),
         row(&[3], [2, 1, OPENING], [&[low], &[low]]),
+    ]
+}
+
+/// The rows of document 02, N7, filtered to the east: the lowest plate and the highest, the setting, and
+/// what is left of each.
+pub fn worked_bounds() -> Vec<([Plate; 2], Setting, [Vec<i16>; 2])> {
+    let (q, q_at_most) = ([9, 5, 12, 8], [9, 6, 12, 9]);
+    let (low, high) = ([i16::MIN; 4], [i16::MAX; 4]);
+    let row = |bounds: [[i16; 4]; 2], length, mode, ends, kept: [[i16; 4]; 2]| {
+        let plates = bounds.map(|levels| Plate::new(4, 1, levels.to_vec()).unwrap());
+        let setting = Setting::new(length, 1, EAST, mode).with_ends(ends);
+        (plates, setting, kept.map(|levels| levels.to_vec()))
+    };
+    vec![
+        row([q, q_at_most], 4, OPENING, ANYWHERE, [[8, 5, 8, 8], [9, 6, 9, 9]]),
+        row([q, q_at_most], 4, CLOSING, ANYWHERE, [[9, 9, 12, 9], [9, 9, 12, 9]]),
+        row([[5, 9, 12, 8], [7, 9, 13, 8]], 4, OPENING, ON_CRACK, [[5; 4], [7; 4]]),
+        // No path of 5 pixels fits.
+        row([q, q_at_most], 5, OPENING, ANYWHERE, [low, low]),
+        row([q, q_at_most], 5, CLOSING, ANYWHERE, [high, high]),
     ]
 }
 

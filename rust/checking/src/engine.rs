@@ -1,6 +1,6 @@
 //! The library's calls on the types of this package.
 use crate::{Plate, Refusal, Setting, Trace};
-use diilvak::{raw, Directions, Ends, Mode};
+use diilvak::{raw, Bounds, Directions, Ends, Mode};
 
 /// The same plate for the library.
 pub fn plate(plate: &Plate) -> diilvak::Plate {
@@ -42,6 +42,17 @@ pub fn correct(
 pub fn filter(unfiltered: &Plate, chosen: Setting) -> Result<Plate, Refusal> {
     let filtered = diilvak::filter(&plate(unfiltered), setting(chosen)?);
     Ok(unfiltered.with(filtered.into_levels()))
+}
+
+/// The filtered lowest and the filtered highest plate.
+pub fn filter_between(
+    lowest: &Plate,
+    highest: &Plate,
+    chosen: Setting,
+) -> Result<[Plate; 2], Refusal> {
+    let bounds = Bounds { lowest: plate(lowest), highest: plate(highest) };
+    let kept = diilvak::filter_between(&bounds, setting(chosen)?).map_err(refusal)?;
+    Ok([lowest.with(kept.lowest.into_levels()), highest.with(kept.highest.into_levels())])
 }
 
 pub fn trace(traced: &Plate, chosen: Setting, at: usize) -> Result<Trace, Refusal> {

@@ -9,7 +9,8 @@
 //! * [`fast`]: the queue or the recursion, by where paths may end.
 //! * [`table`]: the refusal table; [`text`]: the survey program's text.
 //! * [`plate`]: plates, settings and directions as bare numbers; [`random`] and [`cases`]: plates of
-//!   fixed seeds, and the worked ones; [`lent`]: buffers that remember what they held.
+//!   fixed seeds, and the worked ones; [`lent`]: buffers that remember what they held; [`drawing`]: the
+//!   wall of the pictures, and how they are written.
 //!
 //! All of this is written from the documents and uses nothing of the library, its plain data types
 //! neither. The feature `engine`, which is on unless it is turned off, adds the library itself:
@@ -18,6 +19,7 @@
 //!
 //! "Section" and "demand" are those of document 01.
 pub mod cases;
+pub mod drawing;
 #[cfg(feature = "engine")]
 pub mod engine;
 pub mod fast;

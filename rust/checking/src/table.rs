@@ -10,6 +10,16 @@ pub struct Lengths {
     pub work: usize,
 }
 
+/// What is lent to a filter between two plates (document 02, N7): the plates, whose levels are judged too,
+/// and the lengths of the two results and of the one work buffer.
+#[derive(Clone, Copy, Debug)]
+pub struct Between<'a> {
+    pub lowest: &'a [i16],
+    pub highest: &'a [i16],
+    pub results: [usize; 2],
+    pub work: usize,
+}
+
 /// 4 × (k + 1) × W × H, for sizes and gaps within the limits.
 pub fn work_length(width: usize, height: usize, gaps: usize) -> usize {
     4 * (gaps + 1) * width * height
@@ -94,6 +104,34 @@ fn lent(
 
 pub fn filter(width: usize, height: usize, s: Setting, lengths: Lengths) -> Result<(), Refusal> {
     lent(width, height, s, |pixels| pixels, lengths)
+}
+
+/// Every check of a filter, of both plates and both results; then 20.
+pub fn filter_between(
+    width: usize,
+    height: usize,
+    chosen: Setting,
+    lent: Between,
+) -> Result<(), Refusal> {
+    if bad_size(width, height) {
+        return refuse(1);
+    }
+    setting(chosen)?;
+    let pixels = width * height;
+    if lent.lowest.len() != pixels || lent.highest.len() != pixels {
+        return refuse(6);
+    }
+    if lent.results != [pixels; 2] {
+        return refuse(7);
+    }
+    if lent.work < work_length(width, height, chosen.gaps) {
+        return refuse(8);
+    }
+    let mut pairs = lent.lowest.iter().zip(lent.highest);
+    match pairs.position(|(lowest, highest)| lowest > highest) {
+        Some(place) => Err(Refusal { number: 20, place }),
+        None => Ok(()),
+    }
 }
 
 pub fn trace(

@@ -42,6 +42,15 @@ fn worked_ends() {
     }
 }
 
+#[test]
+fn worked_bounds() {
+    for (plates, setting, kept) in cases::worked_bounds() {
+        for (plate, expected) in plates.iter().zip(kept) {
+            all_make(plate, setting, &expected, &format!("{plate:?} {setting:?}"));
+        }
+    }
+}
+
 /// The second reader and its judge on texts of both editions.
 #[test]
 fn worked_texts() {

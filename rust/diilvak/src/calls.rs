@@ -1,5 +1,5 @@
 //! The calls, with buffers of their own.
-use crate::{raw, Direction, Plate, Refusal, Setting};
+use crate::{raw, Bounds, Direction, Plate, Refusal, Setting};
 
 /// What a trace shows: a path through the traced pixel, and the pixel's filtered level.
 #[derive(Clone, Debug, PartialEq, Eq, Hash)]
@@ -71,6 +71,53 @@ pub fn filter(plate: &Plate, setting: Setting) -> Plate {
     let number = raw::filter(width, height, plate.levels(), setting.into(), &mut result, &mut work);
     assert_eq!(number, 0, "a plate and a setting within the limits are never refused");
     plate.with(result)
+}
+
+/// The lowest and the highest plate, each opened or closed: every plate between the two filters to one
+/// between the two results, and at every pixel both results are reached by such plates. This holds in
+/// either mode, and where no path of the setting's length fits on the plate too.
+///
+/// ```
+/// use diilvak::{filter, filter_between, Bounds, Direction, Ends, Mode, Plate, Setting};
+/// let row = |levels: [i16; 4]| Plate::new(4, 1, levels.to_vec());
+/// let setting = Setting::new(4, 1, Direction::East, Mode::Opening, Ends::Anywhere)?;
+/// let bounds = Bounds { lowest: row([9, 5, 12, 8])?, highest: row([9, 6, 12, 9])? };
+/// let kept = filter_between(&bounds, setting)?;
+/// assert_eq!(kept.lowest.levels(), [8, 5, 8, 8]);
+/// assert_eq!(kept.highest.levels(), [9, 6, 9, 9]);
+///
+/// // A plate between the two.
+/// assert_eq!(filter(&row([9, 5, 12, 9])?, setting).levels(), [9, 5, 9, 9]);
+/// # Ok::<(), diilvak::Refusal>(())
+/// ```
+///
+/// # Errors
+///
+/// [`Refusal::BadInput`] where the plates differ in width or in height; [`Refusal::BadBounds`] for the
+/// first pixel whose lowest level is above its highest.
+pub fn filter_between(bounds: &Bounds, setting: Setting) -> Result<Bounds, Refusal> {
+    let Bounds { lowest, highest } = bounds;
+    let (width, height) = (lowest.width(), lowest.height());
+    // The library knows one size, and could not tell 4 × 1 from 2 × 2.
+    if (highest.width(), highest.height()) != (width, height) {
+        return Err(Refusal::BadInput);
+    }
+    let (mut low, mut high) = (vec![0; lowest.pixels()], vec![0; highest.pixels()]);
+    let mut work = work_for(lowest, setting);
+    let mut place = 0;
+    let number = raw::filter_between(
+        width,
+        height,
+        lowest.levels(),
+        highest.levels(),
+        setting.into(),
+        &mut low,
+        &mut high,
+        &mut work,
+        &mut place,
+    );
+    done(number, place)?;
+    Ok(Bounds { lowest: lowest.with(low), highest: highest.with(high) })
 }
 
 /// A path through the pixel at a place, of the best level that any has. Which of several such paths is

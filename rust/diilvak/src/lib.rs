@@ -23,9 +23,13 @@
 //! # Ok::<(), Refusal>(())
 //! ```
 //!
+//! Where poor light leaves a plate between two levels, [`filter_between`] takes a lowest and a highest
+//! plate and gives the lowest and the highest that the filter can make of one between them.
+//!
 //! The calls here lend result, path and work buffers of their own, so that only true refusals are
 //! left. A caller that keeps its buffers, or has numbers from elsewhere, takes [`raw`].
 #![warn(missing_docs)]
+mod bounds;
 mod calls;
 mod directions;
 pub mod limits;
@@ -34,7 +38,8 @@ pub mod raw;
 mod refusal;
 mod setting;
 
-pub use calls::{correct, filter, step, trace, version, Trace};
+pub use bounds::Bounds;
+pub use calls::{correct, filter, filter_between, step, trace, version, Trace};
 pub use directions::{Direction, Directions};
 pub use plate::Plate;
 pub use refusal::Refusal;

@@ -54,6 +54,26 @@ mod c {
             work: *mut u16,
             work_len: usize,
         ) -> usize;
+        pub fn diilvak_filter_between(
+            width: usize,
+            height: usize,
+            lowest: *const i16,
+            lowest_len: usize,
+            highest: *const i16,
+            highest_len: usize,
+            length: usize,
+            gaps: usize,
+            directions: usize,
+            mode: usize,
+            ends: usize,
+            lowest_result: *mut i16,
+            lowest_result_len: usize,
+            highest_result: *mut i16,
+            highest_result_len: usize,
+            work: *mut u16,
+            work_len: usize,
+            place: *mut usize,
+        ) -> usize;
         pub fn diilvak_trace(
             width: usize,
             height: usize,
@@ -110,8 +130,8 @@ pub fn check_setting(s: Setting) -> usize {
     unsafe { c::diilvak_check_setting(s.length, s.gaps, s.directions, s.mode, s.ends) }
 }
 
-/// How many numbers the work buffer of a filter or a trace has at least; 0 where the size or the gap
-/// count is refused.
+/// How many numbers the work buffer of a filter, between two plates too, or of a trace has at least; 0
+/// where the size or the gap count is refused.
 pub fn work_length(width: usize, height: usize, gaps: usize) -> usize {
     // SAFETY: numbers only.
     unsafe { c::diilvak_work_length(width, height, gaps) }
@@ -168,6 +188,45 @@ pub fn filter(
             result.len(),
             work.as_mut_ptr(),
             work.len(),
+        )
+    }
+}
+
+/// 0, with every level of both results written, or refusal 1 to 8, 18 or 20. `place` is always written:
+/// the place of refusal 20, and else 0.
+#[allow(clippy::too_many_arguments)]
+pub fn filter_between(
+    width: usize,
+    height: usize,
+    lowest: &[i16],
+    highest: &[i16],
+    s: Setting,
+    lowest_result: &mut [i16],
+    highest_result: &mut [i16],
+    work: &mut [u16],
+    place: &mut usize,
+) -> usize {
+    // SAFETY: each pointer goes with its slice's own length.
+    unsafe {
+        c::diilvak_filter_between(
+            width,
+            height,
+            lowest.as_ptr(),
+            lowest.len(),
+            highest.as_ptr(),
+            highest.len(),
+            s.length,
+            s.gaps,
+            s.directions,
+            s.mode,
+            s.ends,
+            lowest_result.as_mut_ptr(),
+            lowest_result.len(),
+            highest_result.as_mut_ptr(),
+            highest_result.len(),
+            work.as_mut_ptr(),
+            work.len(),
+            place,
         )
     }
 }

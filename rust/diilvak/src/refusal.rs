@@ -22,7 +22,7 @@ pub enum Refusal {
     BadMode,
     /// 6: an input does not have width × height numbers.
     BadInput,
-    /// 7: the result does not have width × height numbers, or the path not exactly the length.
+    /// 7: a result does not have width × height numbers, or the path not exactly the length.
     BadResult,
     /// 8: the work buffer is too short.
     BadWork,
@@ -42,6 +42,11 @@ pub enum Refusal {
     NoPath,
     /// 18: the ends are neither anywhere nor on crack. It is judged after 5 and before 6.
     BadEnds,
+    /// 20: a level of the lowest plate is above that of the highest.
+    BadBounds {
+        /// The first such place.
+        place: usize,
+    },
 }
 
 impl Refusal {
@@ -69,6 +74,7 @@ impl Refusal {
             11 => Refusal::BadPlace,
             12 => Refusal::NoPath,
             18 => Refusal::BadEnds,
+            20 => Refusal::BadBounds { place },
             _ => return None,
         })
     }
@@ -89,13 +95,16 @@ impl Refusal {
             Refusal::BadPlace => 11,
             Refusal::NoPath => 12,
             Refusal::BadEnds => 18,
+            Refusal::BadBounds { .. } => 20,
         }
     }
 
     /// The place that the refusal speaks of, where it has one.
     pub fn place(self) -> Option<usize> {
         match self {
-            Refusal::BadReading { place } | Refusal::BadCorrection { place } => Some(place),
+            Refusal::BadReading { place }
+            | Refusal::BadCorrection { place }
+            | Refusal::BadBounds { place } => Some(place),
             _ => None,
         }
     }
@@ -120,7 +129,7 @@ impl fmt::Display for Refusal {
             Refusal::BadDirections => f.write_str("no direction, or one that does not exist"),
             Refusal::BadMode => f.write_str("the mode is neither 0 nor 1"),
             Refusal::BadInput => f.write_str("an input does not have width × height numbers"),
-            Refusal::BadResult => f.write_str("the result or the path has not the right length"),
+            Refusal::BadResult => f.write_str("a result or the path has not the right length"),
             Refusal::BadWork => f.write_str("the work buffer is too short"),
             Refusal::BadReading { .. } => write!(f, "a reading is above {MAX_READING}"),
             Refusal::BadCorrection { .. } => {
@@ -129,6 +138,7 @@ impl fmt::Display for Refusal {
             Refusal::BadPlace => f.write_str("the place is not on the plate"),
             Refusal::NoPath => f.write_str("no path of this length goes through the pixel"),
             Refusal::BadEnds => f.write_str("the ends are neither 0 nor 1"),
+            Refusal::BadBounds { .. } => f.write_str("the lowest level is above the highest"),
         }
     }
 }

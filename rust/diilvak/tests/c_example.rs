@@ -1,5 +1,5 @@
-//! The C example compiles without a warning, and prints what document 01 says. The header also
-//! compiles by itself, as C and as C++.
+//! The C examples compile without a warning, and print what the documents say. The header also compiles
+//! by itself, as C and as C++.
 use std::path::PathBuf;
 use std::process::Command;
 
@@ -15,17 +15,28 @@ fn run(command: &mut Command) -> String {
     text(&output.stdout)
 }
 
-#[test]
-fn survey_prints_the_example() {
-    let program = PathBuf::from(env!("CARGO_TARGET_TMPDIR")).join("survey");
+/// What an example prints.
+fn printed(name: &str) -> String {
+    let program = PathBuf::from(env!("CARGO_TARGET_TMPDIR")).join(name);
     run(Command::new("cc")
-        .args(["-std=c11", "-Wall", "-Wextra", "-pedantic", "-Iinclude", "examples/survey.c"])
+        .args(["-std=c11", "-Wall", "-Wextra", "-pedantic", "-Iinclude"])
+        .arg(format!("examples/{name}.c"))
         .args(["-L", env!("DIILVAK_LIB_DIR"), "-ldiilvak", "-o"])
         .arg(&program)
         .current_dir(root()));
+    run(&mut Command::new(&program))
+}
+
+#[test]
+fn survey_prints_the_example() {
+    assert_eq!(printed("survey"), "width=4\nheight=1\nout=8,5,8,8\nway=2\nlevel=8\npath=0,1,2,3\n");
+}
+
+#[test]
+fn between_prints_the_example() {
     assert_eq!(
-        run(&mut Command::new(&program)),
-        "width=4\nheight=1\nout=8,5,8,8\nway=2\nlevel=8\npath=0,1,2,3\n"
+        printed("between"),
+        "lowest=8,5,8,8\nhighest=9,6,9,9\nthe two plates exchanged: refused=20, place=1\n"
     );
 }
 

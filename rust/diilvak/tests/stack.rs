@@ -1,5 +1,5 @@
-//! Filter and trace in threads with no more stack than the header says they find room in. A call that
-//! takes more ends the whole run.
+//! Filter, between two plates too, and trace in threads with no more stack than the header says they find
+//! room in. A call that takes more ends the whole run.
 use diilvak::limits::{FILTER_STACK, TRACE_STACK};
 use diilvak::{raw, Directions, Ends, Mode, Setting};
 
@@ -43,6 +43,21 @@ fn filter() {
         let call = || raw::filter(SIDE, SIDE, &plate, setting, &mut result, &mut work);
         assert_eq!(within(FILTER_STACK, call), 0);
         assert!(result.iter().zip(&plate).all(|(opened, own)| opened <= own));
+    }
+}
+
+#[test]
+fn filter_between() {
+    for setting in settings() {
+        let (lowest, mut work, mut place) = (plate(), work(), 1);
+        let highest: Vec<i16> = lowest.iter().map(|level| level.saturating_add(99)).collect();
+        let (mut low, mut high) = (vec![0; SIDE * SIDE], vec![0; SIDE * SIDE]);
+        let call = || {
+            let (low, high, work, place) = (&mut low, &mut high, &mut work, &mut place);
+            raw::filter_between(SIDE, SIDE, &lowest, &highest, setting, low, high, work, place)
+        };
+        assert_eq!((within(FILTER_STACK, call), place), (0, 0));
+        assert!(low != high && low.iter().zip(&high).all(|(low, high)| low <= high));
     }
 }
 

@@ -1,15 +1,15 @@
 //! Filter and trace against the ordered queue and against one scan a level, with ends on crack against
-//! ends anywhere, and the correction against two searches and a sum: the same plates, the same run, one
-//! thread. Times are processor time, so that other work on the machine counts little: the best of three
-//! calls, or one call where that takes over two seconds, with each method's own buffers (the library's
-//! are cleared first). The results are compared.
+//! ends anywhere, the filter between two plates against that of one, and the correction against two
+//! searches and a sum: the same plates, the same run, one thread. Times are processor time, so that other
+//! work on the machine counts little: the best of three calls, or one call where that takes over two
+//! seconds, with each method's own buffers (the library's are cleared first). The results are compared.
 //!
 //! `cargo run --release --bin bench [all]`: one scan a level is run where it ends in some seconds, and
 //! with `all` on every plate, which takes some minutes.
 use checking::plate::BOTH_ENDS;
 use checking::random::{plate, Kind, Random};
 use checking::{engine, fast, levels, queue, table, Plate, Setting};
-use diilvak::raw;
+use diilvak::{raw, Bounds};
 use std::hint::black_box;
 
 /// The processor time that this process has taken, in seconds.
@@ -123,6 +123,30 @@ fn ends() {
     }
 }
 
+/// A filter between two plates beside a filter of the lowest alone.
+fn between() {
+    let (width, height, length, gaps) = (256, 256, 30, 2);
+    let mut random = Random(256);
+    let lowest = plate(&mut random, Kind::Wall, width, height);
+    let raised = lowest.levels().iter().map(|level| level + random.below(300) as i16).collect();
+    let highest = lowest.with(raised);
+    let setting = Setting::new(length, gaps, 15, 0);
+    let bounds = Bounds { lowest: engine::plate(&lowest), highest: engine::plate(&highest) };
+    let chosen = engine::setting(setting).expect("accepted");
+    let (one, _) = time(|| diilvak::filter(&bounds.lowest, chosen));
+    let (both, kept) = time(|| diilvak::filter_between(&bounds, chosen).expect("accepted"));
+    for (plate, kept) in [(&lowest, kept.lowest), (&highest, kept.highest)] {
+        let expected = fast::filter(plate, setting);
+        assert!(kept.levels() == expected.levels(), "between two plates: the results differ");
+    }
+    println!("\n| plate | L | k | filter | between two plates | between / filter |");
+    println!("|---|---|---|---|---|---|");
+    println!(
+        "| {width} × {height}, noise and curves | {length} | {gaps} | {one:.3} s | {both:.3} s | {:.2} |",
+        both / one
+    );
+}
+
 /// The correction of a plate without faults, beside one that searches the readings, then the words, and
 /// then adds: nanoseconds a pixel.
 fn correction() {
@@ -204,6 +228,7 @@ fn main() {
         );
     }
     ends();
+    between();
     awkward();
     correction();
 }

@@ -1,10 +1,13 @@
 //! The lengths of lent buffers.
-use crate::calls::{correct_call, filter_call, trace_call};
+use crate::calls::{between_call, correct_call, filter_call, trace_call};
+use checking::cases::{rounds, small_case};
+use checking::engine::numbers;
 use checking::plate::{bad_size, OPENING};
 use checking::random::Random;
-use checking::table::{self, Lengths};
-use checking::Setting;
+use checking::table::{self, Between, Lengths};
+use checking::{listing, Setting};
 use diilvak::raw;
+use std::collections::BTreeMap;
 
 /// Every buffer one too short, right, and one too long, all else being right.
 #[test]
@@ -41,6 +44,54 @@ fn lengths_of_buffers() {
     assert_eq!(correct(6, 7, 6), 6);
     assert_eq!(correct(6, 6, 5), 7);
     assert_eq!(correct(6, 6, 7), 7);
+}
+
+/// The buffers of a filter between two plates, each empty, one too short, right, and one too long, in all
+/// mixtures: with plates in order, and with plates that cross, which is the last to be told.
+#[test]
+fn lengths_between_two_plates() {
+    let mut random = Random(19);
+    let setting = Setting::new(2, 1, 15, OPENING);
+    for (level, last) in [(3, 0), (2, 0), (1, 20)] {
+        let mut counts = BTreeMap::new();
+        for mixture in 0..1024 {
+            let length = |buffer: usize| [0, 5, 6, 7][mixture >> (2 * buffer) & 3];
+            let (lowest, highest) = (vec![2; length(0)], vec![level; length(1)]);
+            let results = [length(2), length(3)];
+            let work = [0, 47, 48, 49][mixture >> 8];
+            let lent = Between { lowest: &lowest, highest: &highest, results, work };
+            let number = between_call(&mut random, (3, 2), setting, lent);
+            *counts.entry(number).or_insert(0) += 1;
+        }
+        // One mixture in 16 has the right plates, one in 16 of these the right results, and half of these
+        // room to work in.
+        assert_eq!(counts, BTreeMap::from([(6, 960), (7, 60), (8, 2), (last, 2)]), "{level}");
+    }
+}
+
+/// Room to spare in the work buffer, enough for more gaps too, changes no level.
+#[test]
+fn room_to_spare() {
+    let mut random = Random(29);
+    for _ in 0..rounds(300, 3000) {
+        let (plate, setting) = small_case(&mut random);
+        let (width, height, pixels) = (plate.width(), plate.height(), plate.pixels());
+        let needed = table::work_length(width, height, setting.gaps);
+        let expected = listing::filter(&plate, setting);
+        for spare in [1, 4 * pixels, 9 * needed] {
+            let (mut low, mut high, mut place) = (vec![7; pixels], vec![7; pixels], 7);
+            let mut work = vec![7; needed + spare];
+            let (levels, chosen) = (plate.levels(), numbers(setting));
+            assert_eq!(raw::filter(width, height, levels, chosen, &mut low, &mut work), 0);
+            assert_eq!(low, expected.levels(), "{plate:?} {setting:?} {spare}");
+            let (low, high, work) = (&mut low, &mut high, &mut work);
+            let number = raw::filter_between(
+                width, height, levels, levels, chosen, low, high, work, &mut place,
+            );
+            assert_eq!((number, place), (0, 0));
+            assert_eq!([&low[..], high], [expected.levels(); 2], "{plate:?} {setting:?} {spare}");
+        }
+    }
 }
 
 #[test]

@@ -3,7 +3,7 @@ use checking::engine::{self, numbers};
 use checking::lent::Lent;
 use checking::listing::judge_shown;
 use checking::random::Random;
-use checking::table::{self, Lengths};
+use checking::table::{self, Between, Lengths};
 use checking::{fast, Plate, Refusal, Setting, Trace};
 use diilvak::raw;
 
@@ -34,6 +34,48 @@ pub fn filter_call(
         assert_eq!(result.lend(), fast::filter(&plate, setting).levels(), "{call}");
     } else {
         assert!(result.untouched() && work.untouched(), "{call}: a refusal changed a buffer");
+    }
+    found
+}
+
+/// The same of a filter between two plates, which also writes the place of every call.
+pub fn between_call(
+    random: &mut Random,
+    (width, height): (usize, usize),
+    setting: Setting,
+    lent: Between,
+) -> usize {
+    let (lowest, highest) = (lent.lowest.to_vec(), lent.highest.to_vec());
+    let [mut low, mut high] = lent.results.map(|length| Lent::new(length, || random.draw() as i16));
+    let mut work = Lent::new(lent.work, || random.draw() as u16);
+    let mut place = Lent::new(1, || random.draw() as usize);
+    let found = raw::filter_between(
+        width,
+        height,
+        &lowest,
+        &highest,
+        numbers(setting),
+        low.lend(),
+        high.lend(),
+        work.lend(),
+        &mut place.lend()[0],
+    );
+    let call = format!("between {width} × {height} {setting:?} {lent:?}");
+    let expected = table::filter_between(width, height, setting, lent);
+    assert_eq!(found, number(expected), "{call}");
+    assert_eq!(place.lend()[0], expected.err().map_or(0, |refusal| refusal.place), "{call}");
+    assert!(place.guards_untouched(), "{call}: beyond the place");
+    assert!(lowest == lent.lowest && highest == lent.highest, "{call}: a plate changed");
+    if found == 0 {
+        let guards = low.guards_untouched() && high.guards_untouched() && work.guards_untouched();
+        assert!(guards, "{call}: beyond a buffer");
+        for (levels, result) in [(lowest, low.lend()), (highest, high.lend())] {
+            let plate = Plate::new(width, height, levels).unwrap();
+            assert_eq!(result, fast::filter(&plate, setting).levels(), "{call}");
+        }
+    } else {
+        let untouched = low.untouched() && high.untouched() && work.untouched();
+        assert!(untouched, "{call}: a refusal changed a buffer");
     }
     found
 }

@@ -1,4 +1,5 @@
 //! The library against the methods that share no code with it.
+mod bounds;
 mod buffers;
 mod calls;
 mod corrections;

@@ -1,15 +1,16 @@
 //! Calls with any numbers and buffers: which refusal comes, and what it leaves.
-use crate::calls::{correct_call, filter_call, number, trace_call};
+use crate::calls::{between_call, correct_call, filter_call, number, trace_call};
 use checking::cases::rounds;
 use checking::engine::{self, numbers};
 use checking::plate::{bad_size, CORRECTIONS, MAX_READING, OPENING};
 use checking::random::Random;
-use checking::table::{self, Lengths};
+use checking::table::{self, Between, Lengths};
 use checking::{Plate, Refusal, Setting};
 use diilvak::raw;
+use std::collections::BTreeMap;
 
 /// One more than the largest refusal number.
-const NUMBERS: usize = 19;
+const NUMBERS: usize = 21;
 
 /// The refusals among the plates of section 7.
 #[test]
@@ -56,6 +57,32 @@ fn any_length(random: &mut Random, right: usize) -> usize {
     }
 }
 
+/// A work buffer for the setting, or now and then another. Calls of full plates that are not refused belong
+/// to other tests.
+fn any_work(random: &mut Random, setting: Setting, pixels: usize) -> usize {
+    let work = any_length(random, 4 * (setting.gaps.min(8) + 1) * pixels);
+    if pixels > 400 {
+        work.min(3000)
+    } else {
+        work
+    }
+}
+
+/// A lowest and a highest plate; on half of them some levels of the highest are any.
+fn any_bounds(random: &mut Random, right: usize) -> [Vec<i16>; 2] {
+    let lengths = [any_length(random, right), any_length(random, right)];
+    let lowest: Vec<i16> = (0..lengths[0]).map(|_| random.draw() as i16).collect();
+    let mut above = |level: &i16| level.saturating_add(random.below(9) as i16);
+    let mut highest: Vec<i16> =
+        (0..lengths[1]).map(|p| lowest.get(p).map_or(0, &mut above)).collect();
+    for _ in 0..random.below(2) * 3 {
+        if let Some(level) = highest.get_mut(random.below(right)) {
+            *level = random.draw() as i16;
+        }
+    }
+    [lowest, highest]
+}
+
 /// Calls with several faults at once: the first number that applies is returned, and nothing changes.
 #[test]
 fn refusals_follow_the_table() {
@@ -72,11 +99,7 @@ fn refusals_follow_the_table() {
             number(table::setting(setting)),
             "{setting:?}"
         );
-        // Calls of full plates that are not refused belong to other tests.
-        let mut work = any_length(&mut random, 4 * (setting.gaps.min(8) + 1) * pixels);
-        if pixels > 400 {
-            work = work.min(3000);
-        }
+        let work = any_work(&mut random, setting, pixels);
         let lengths = Lengths {
             plate: any_length(&mut random, pixels),
             result: any_length(&mut random, pixels),
@@ -111,6 +134,34 @@ fn refusals_follow_the_table() {
     assert_eq!(came_up(filters), [0, 1, 2, 3, 4, 5, 6, 7, 8, 18]);
     assert_eq!(came_up(traces), [0, 1, 2, 3, 4, 5, 6, 7, 8, 11, 12, 18]);
     assert_eq!(came_up(corrections), [0, 1, 6, 7, 9, 10]);
+}
+
+/// The same of filters between two plates. Every number comes with plates in order and with plates that
+/// cross, but for 20, which comes with the latter alone, instead of done.
+#[test]
+fn refusals_between_two_plates() {
+    let mut random = Random(18);
+    let mut counts = [BTreeMap::new(), BTreeMap::new()];
+    let mut later = 0;
+    for _ in 0..rounds(40_000, 1_000_000) {
+        let size = any_size(&mut random);
+        let pixels = if bad_size(size.0, size.1) { 5 } else { size.0 * size.1 };
+        let setting = any_setting(&mut random);
+        let work = any_work(&mut random, setting, pixels);
+        let [lowest, highest] = any_bounds(&mut random, pixels);
+        let results = [any_length(&mut random, pixels), any_length(&mut random, pixels)];
+        let lent = Between { lowest: &lowest, highest: &highest, results, work };
+        let crossing = |p: &usize| lowest[*p] > highest[*p];
+        let first = (0..lowest.len().min(highest.len())).find(crossing);
+        let number = between_call(&mut random, size, setting, lent);
+        *counts[usize::from(first.is_some())].entry(number).or_insert(0) += 1;
+        later += usize::from(number == 20 && first > Some(0));
+    }
+    let [in_order, crossing] = counts;
+    assert!(in_order.keys().eq(&[0, 1, 2, 3, 4, 5, 6, 7, 8, 18]), "{in_order:?}");
+    assert!(crossing.keys().eq(&[1, 2, 3, 4, 5, 6, 7, 8, 18, 20]), "{crossing:?}");
+    assert!(later > 0, "20 past the first pixel");
+    println!("calls between two plates by number, in order {in_order:?}, crossing {crossing:?}");
 }
 
 /// The package takes exactly the sizes and settings that the table lets pass.

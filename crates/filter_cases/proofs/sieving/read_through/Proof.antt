@@ -1,11 +1,9 @@
 -- `read_through` reads each level once, and what is read is a number of 16 bits.
 use Prim.Native.Nat.{ℕ, _-_, _≤_, _<_}
-use mathlib.Core.Path.{_≡_, subst}
-use mathlib.Core.Logic.{⊎-elim}
 use native.Mathlib.Omega.{arith}
 use lib.ListN.{length}
 use lib.Signed.{mag}
-use Rattle.basics.proofs.Numbers.{le-or-lt}
+use Rattle.basics.proofs.Numbers.{below-more}
 use Rattle.plate.specs.Opening.{levelAt}
 use Rattle.theory.proofs.Opening.{levels-within}
 use Rattle.engine.proofs.FinishLaws.{level-small}
@@ -38,7 +36,7 @@ loop-again c =
     let f = c .before .before .before .args .plate .now in
     let l = c .before .before .loop in
     let here = level-small f (l .i) (c .level .given) (omega arith) in
-    (omega arith, λ p h. ⊎-elim (λ e. let same : l .i ≡ p = omega arith in subst (λ (q : ℕ). mag (levelAt f q) < 32768) same here) (l .inv .1 p) (le-or-lt (l .i) p))
+    (omega arith, below-more (λ (p : ℕ). mag (levelAt f p) < 32768) (l .i) here (l .inv .1))
 
 returns : tie.Need-returns Inv-loop μ-loop
 returns c = levels-within (c .before .before .args .plate .now) (λ p h. c .before .loop .inv .1 p (omega arith))

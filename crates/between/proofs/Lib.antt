@@ -1,0 +1,4 @@
+pub mod CommonLengths
+pub mod Deciding
+pub mod Scanning
+pub mod Promised

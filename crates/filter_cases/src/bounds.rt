@@ -1,0 +1,44 @@
+// Plates known between two levels (document 02, N7): the worked rows, a lowest and a highest one each,
+// filtered to the east.
+use crate::printing::print_bounds;
+use crate::settings::CLOSING;
+use crate::settings::EAST;
+use crate::settings::OPENING;
+use crate::settings::crack_ended;
+use crate::settings::setting;
+use crate::settings::with_ends;
+use plate::Setting;
+
+fn filter_pair(name: &[u8], lowest: &[i16], highest: &[i16], s: Setting) {
+    let mut low = [0i16; 4];
+    let mut high = [0i16; 4];
+    let mut work = [4321u16; 40];
+    let answer = between::filter_between(4, 1, lowest, highest, s, &mut low, &mut high, &mut work);
+    print_bounds(name, answer, &low, &high);
+}
+
+pub(crate) fn bound_rows() {
+    let q = [9i16, 5, 12, 8];
+    let q_high = [9i16, 6, 12, 9];
+    let opening = setting(OPENING, EAST, 4, 1);
+    filter_pair(b"Q and above", &q, &q_high, opening);
+    let closing = setting(CLOSING, EAST, 4, 1);
+    filter_pair(b"Q and above, closing", &q, &q_high, closing);
+    let first = [5i16, 9, 12, 8];
+    let first_high = [7i16, 9, 13, 8];
+    filter_pair(
+        b"gap first and above, ends 1",
+        &first,
+        &first_high,
+        crack_ended(opening),
+    );
+    let crossed = [9i16, 4, 12, 7];
+    filter_pair(b"Q and below", &q, &crossed, opening);
+    filter_pair(b"Q and below, ends 2", &q, &crossed, with_ends(opening, 2));
+    filter_pair(
+        b"Q and above by 5",
+        &q,
+        &q_high,
+        setting(OPENING, EAST, 5, 1),
+    );
+}
