@@ -11,13 +11,13 @@ use Rattle.basics.proofs.Order.{mag-between}
 use Rattle.plate.specs.Opening.{levelAt, filtered}
 use Rattle.plate.specs.declared.setting.Setting.{Setting}
 use Rattle.theory.specs.Modes.{Levels}
-use Rattle.theory.specs.Between.{Between, Bounds}
+use Rattle.theory.specs.Between.{LiesBetween, Bounds}
 use Rattle.theory.proofs.Opening.{levels-within}
 use Rattle.theory.proofs.Mirror.{filtered-length, filtered-monotone}
 
 module _ (s : Setting) (W H : ℕ) (low high : List ℤ) (levels-low : Levels low) (levels-high : Levels high) where
   -- what lies between levels of 16 bits has 16 bits
-  between-levels : (f : List ℤ) → Between W H low high f → Levels f
+  between-levels : (f : List ℤ) → LiesBetween W H low high f → Levels f
   between-levels f b =
       levels-within f
       (λ p h. let on : p < W * H = omega (arith, b .sized) in
@@ -25,10 +25,10 @@ module _ (s : Setting) (W H : ℕ) (low high : List ℤ) (levels-low : Levels lo
 
   module _ (sized-low : length low ≡ W * H) (sized-high : length high ≡ W * H) (ordered : (x : ℕ) → x < W * H → levelAt low x ≤ℤ levelAt high x) where
     -- the two are between themselves
-    low-between : Between W H low high low
+    low-between : LiesBetween W H low high low
     low-between = record { sized = sized-low; not-below = λ x on. ≤ℤ-refl (levelAt low x); not-above = ordered }
 
-    high-between : Between W H low high high
+    high-between : LiesBetween W H low high high
     high-between = record { sized = sized-high; not-below = ordered; not-above = λ x on. ≤ℤ-refl (levelAt high x) }
 
     pub filtered-bounds : Bounds s W H low high (filtered s W H low) (filtered s W H high)

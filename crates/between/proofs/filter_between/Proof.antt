@@ -19,6 +19,10 @@ judges c = rw (c .before .before .common-length .ensures, c .before .common-leng
 passed : (c : tie.After-enum-told) → let a = c .before .before .before .before .before .before .args in BothPassed (a .width) (a .height) (a .setting) (a .lowest .now) (a .highest .now) (length (a .low .now)) (length (a .high .now)) (length (a .work .now))
 passed c = judge-passes _ _ _ _ _ _ _ _ (sym (ap answered (c .enum-told .given .1)) ∙ judges (c .before .before))
 
+-- a refusal, after what it has left: an engine that has stored something before it refuses fails there first
+leaving : {A B : Type 0} → B → A → A × B
+leaving left refusal = (refusal, left)
+
 common-length-requires : tie.Need-common-length-requires
 common-length-requires c κs = search needs
 
@@ -33,7 +37,7 @@ enum-known-answer c = search needs
 
 returns : tie.Need-returns
 returns c =
-    (judge-refuses _ _ _ _ _ _ _ _ (sym (ap answered (c .before .answer .given .1)) ∙ judges (c .before .before .before)), (refl, (refl, (refl, tt))))
+    leaving (refl, (refl, (refl, tt))) (judge-refuses _ _ _ _ _ _ _ _ (sym (ap answered (c .before .answer .given .1)) ∙ judges (c .before .before .before)))
 
 enum-told : tie.Need-enum-told
 enum-told c = search needs
@@ -43,7 +47,7 @@ first-above-requires c κs = passed c .sized-low ∙ sym (passed c .sized-high)
 
 returns-2 : tie.Need-returns-2
 returns-2 c =
-    (passed (c .before .before) .refuses _ (c .before .first-above .ensures .0) (c .if1 .taken), (refl, (refl, (refl, tt))))
+    leaving (refl, (refl, (refl, tt))) (passed (c .before .before) .refuses _ (c .before .first-above .ensures .0) (c .if1 .taken))
 
 filter-requires : tie.Need-filter-requires
 filter-requires c κs = search needs
