@@ -5,7 +5,7 @@
  * dark cracks. This library corrects a plate of readings, opens or closes it, and traces the path
  * through a pixel of your choice; of a plate that poor light leaves between two levels it tells what
  * can be left of it at least and at most. Its results are exact: the code is proved, for every input,
- * to give what the comments below say.
+ * to give what the comments below say. diilvak_book.h has the findings book, in which traces are entered.
  *
  *
  * PLATES
@@ -57,7 +57,9 @@
  *
  * Every function answers every input. diilvak_check_setting, diilvak_correct, diilvak_filter,
  * diilvak_filter_between and diilvak_trace return 0 where the call is done, and otherwise the number of
- * the first cause in this table that applies to the call (18 stands where it is judged):
+ * the first cause in this table that applies to the call (18 stands where it is judged). The calls of
+ * diilvak_book.h hand that number back beside the book; 15, 16 and 17 are theirs alone, and are judged in
+ * this order, after 12 where a trace is entered:
  *
  *     1   width or height is 0 or above 1024, or width * height is above 65536
  *     2   length is 0 or above 1024
@@ -72,15 +74,18 @@
  *     10  a correction is below DIILVAK_MIN_CORRECTION or above DIILVAK_MAX_CORRECTION
  *     11  the traced place is not below width * height
  *     12  no path of that length, in one of the directions, goes through the pixel
+ *     15  256 entries stand in the book and the new one supersedes none, or it shows more than 256
+ *     16  the book's counter is at DIILVAK_MAX_SERIAL
+ *     17  no entry that stands in the book has the serial number
  *     20  a level of the lowest plate is above that of the highest
  *
  * A refused call leaves every buffer and number that was lent to it as it was, but for the place that
  * diilvak_correct and diilvak_filter_between report. Sizes and settings are size_t: a negative number
  * turns into a large one and is refused.
  *
- * The results of the other three functions are no refusal numbers: diilvak_step returns whether there
- * is such a step, 1 or 0, diilvak_work_length a length, which is 0 for a size or a gap count that would
- * be refused, and diilvak_version the version.
+ * The results of the other three functions of this header are no refusal numbers: diilvak_step returns
+ * whether there is such a step, 1 or 0, diilvak_work_length a length, which is 0 for a size or a gap
+ * count that would be refused, and diilvak_version the version.
  *
  *
  * WHAT THE CALLER OWES
@@ -93,8 +98,8 @@
  * The library allocates nothing, keeps nothing between calls, and touches no memory but what it is
  * lent and its own stack. A filter finds room in DIILVAK_FILTER_STACK bytes of stack, between two plates
  * too, since it takes one after the other, and a trace in DIILVAK_TRACE_STACK, whatever the plate and the
- * setting; the other calls take next to nothing. Where a thread has less left, the call runs past its
- * end, which the library cannot tell.
+ * setting; the other calls of this header take next to nothing. Where a thread has less left, the call
+ * runs past its end, which the library cannot tell.
  *
  * Calls may run at the same time in several threads, as long as none writes what another is lent. Work,
  * path and result buffers need not be cleared: what they held never changes an answer.
@@ -109,8 +114,8 @@
 extern "C" {
 #endif
 
-/* The version of this header, 0.5.0, as one number: major * 10000 + minor * 100 + patch. */
-#define DIILVAK_VERSION 500
+/* The version of this header, 0.6.0, as one number: major * 10000 + minor * 100 + patch. */
+#define DIILVAK_VERSION 600
 
 /* Limits. */
 #define DIILVAK_MAX_SIDE 1024
@@ -156,6 +161,9 @@ extern "C" {
 #define DIILVAK_BAD_CORRECTION 10
 #define DIILVAK_BAD_PLACE 11
 #define DIILVAK_NO_PATH 12
+#define DIILVAK_BOOK_FULL 15
+#define DIILVAK_SERIALS_SPENT 16
+#define DIILVAK_NO_ENTRY 17
 #define DIILVAK_BAD_ENDS 18
 #define DIILVAK_BAD_BOUNDS 20
 

@@ -3,3 +3,4 @@ pub mod Tests
 pub mod Lists
 pub mod Integers
 pub mod Order
+pub mod Keeping

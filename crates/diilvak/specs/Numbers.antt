@@ -8,6 +8,8 @@ use lib.IntN.{ℤ}
 use Rattle.plate.specs.Limits.{maxGaps}
 use Rattle.plate.specs.Refusals.{Verdict, Verdict.accepted, Verdict.refused, badSize}
 use Rattle.plate.specs.declared.setting.Setting.{Setting}
+use Rattle.plate.specs.declared.answer.Traced.{Traced}
+use Rattle.plate.specs.declared.answer.Traced.the-variants.{Path, Refused as Untraced}
 use Rattle.plate.specs.declared.walker.Moved.{Moved}
 use Rattle.plate.specs.declared.walker.Moved.the-variants.{To, Leaves}
 
@@ -39,6 +41,11 @@ freeAfter (refused number place) old new = new ≡ old
 abbrev pub levelAfter : Verdict ℤ → ℤ → ℤ
 levelAfter (accepted level) old = level
 levelAfter (refused number place) old = old
+
+-- a lent direction: the bit of the one that the trace shows, or what it was before a refusal
+abbrev pub directionAfter : Traced → ℕ → ℕ
+directionAfter (Path direction level) old = direction
+directionAfter (Untraced number place) old = old
 
 -- the direction, the path and the work buffer lent to a trace: shown and spent, or as they were before a refusal
 abbrev pub shownAfter : Verdict ℤ → (ℕ → ℤ → List ℕ → Type 0) → ℕ → ℕ → List ℕ → List ℕ → List ℕ → List ℕ → Type 0

@@ -5,6 +5,6 @@ use Prim.Native.Nat.{ℕ, _+_, _*_}
 abbrev pub versionOf : ℕ → ℕ → ℕ → ℕ
 versionOf major minor patch = major * 10000 + minor * 100 + patch
 
--- this version, 0.5.0
+-- this version, 0.6.0
 abbrev pub version : ℕ
-version = versionOf 0 5 0
+version = versionOf 0 6 0

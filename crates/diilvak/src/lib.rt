@@ -14,15 +14,20 @@ ghost use Rattle.theory.specs.Between.{Bounds};
 ghost use Rattle.between.specs.Refusals.{betweenVerdict};
 ghost use Rattle.diilvak.specs.Numbers.{settingOf, numberOf, placeOf, lentAfter, freeAfter, levelAfter, shownAfter, hasMoved, placeAfter, workLength};
 ghost use Rattle.diilvak.specs.Version.{version};
+
+mod findings;
+mod telling;
+
+use crate::telling::tell;
+use crate::telling::tell_trace;
 use plate::Answer;
 use plate::Made;
 use plate::Moved;
 use plate::Setting;
-use plate::Traced;
 use plate::Walker;
 
-// This version, 0.5.0, as one number: major * 10000 + minor * 100 + patch.
-const VERSION: usize = 500;
+// This version, 0.6.0, as one number: major * 10000 + minor * 100 + patch.
+const VERSION: usize = 600;
 
 // The version that a program runs with, for callers to hold to that of their header.
 #[no_mangle]
@@ -47,23 +52,6 @@ pub extern "C" fn diilvak_check_setting(
     match made {
         Made::Valid(_) => 0,
         Made::Refused { number, place: _ } => number,
-    }
-}
-
-// The number of an answer, and its place in a lent number; both are 0 where the call is done.
-fn tell(answer: Answer, place: &mut usize) -> usize
-    ensures { λ r. ⌜ r ≡ numberOf (answered answer) ⌝ }
-    ensures { λ r. ⌜ now (place .exit) ≡ placeOf (answered answer) ⌝ }
-{
-    match answer {
-        Answer::Done => {
-            *place = 0;
-            0
-        }
-        Answer::Refused { number, place: at } => {
-            *place = at;
-            number
-        }
     }
 }
 
@@ -227,15 +215,5 @@ pub extern "C" fn diilvak_trace(
         ends: ends,
     };
     let traced = tracing::trace(width, height, plate, setting, at, path, work);
-    match traced {
-        Traced::Path {
-            direction: bit,
-            level: found,
-        } => {
-            *direction = bit;
-            *level = found;
-            0
-        }
-        Traced::Refused { number, place: _ } => number,
-    }
+    tell_trace(traced, direction, level)
 }

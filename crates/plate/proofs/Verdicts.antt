@@ -1,7 +1,7 @@
 -- A call is accepted exactly when none of its checks refuses, and the first that does decides.
-use mathlib.Core.Path.{_≡_, refl}
+use mathlib.Core.Path.{_≡_, refl, subst}
 use mathlib.Core.Bool.{Bool, true, false, cond}
-use mathlib.Core.List.{List, [], _∷_, _++_}
+use mathlib.Core.List.{List, [], _∷_, _++_, append-nil}
 use mathlib.Core.Logic.{⊎-elim}
 use native.Mathlib.Omega.{arith}
 use Prim.Native.Nat.{ℕ}
@@ -40,6 +40,10 @@ refused-first {A} a b (c ∷ cs) ds n p e =
     (λ t. let f : judged cs a ≡ refused n p = rw t at e in rw t (refused-first a b cs ds n p f))
     (true-or-false (c .refuses))
 
+-- a refusal does not depend on what the call would return
+pub refused-same : {A B : Type 0} (a : A) (b : B) (cs : List Check) (n p : ℕ) → judged cs a ≡ refused n p → judged cs b ≡ refused n p
+refused-same a b cs n p e = subst (λ (ds : List Check). judged ds b ≡ refused n p) (append-nil cs) (refused-first a b cs [] n p e)
+
 -- where they pass the others decide
 pub passed-first : {A : Type 0} (a : A) (cs ds : List Check) → Clear cs → judged (cs ++ ds) a ≡ judged ds a
 unfolding judged
@@ -68,3 +72,8 @@ unfolding judged
 same-after a [] ds es same = same tt
 same-after a (c ∷ cs) ds es same =
     ⊎-elim (λ t. rw t) (λ t. rw t (same-after a cs ds es (λ h. same (t, h)))) (true-or-false (c .refuses))
+
+-- none of the later ones either
+pub clear-second : (cs ds : List Check) → Clear (cs ++ ds) → Clear ds
+clear-second [] ds h = h
+clear-second (c ∷ cs) ds h = clear-second cs ds (h .1)

@@ -45,6 +45,16 @@ refusalLine = 13
 abbrev pub refusalLarge : ℕ
 refusalLarge = 14
 
+-- document 02, N3: the book is full, its serial numbers are spent, no entry has the serial number
+abbrev pub refusalFull : ℕ
+refusalFull = 15
+
+abbrev pub refusalSpent : ℕ
+refusalSpent = 16
+
+abbrev pub refusalNoEntry : ℕ
+refusalNoEntry = 17
+
 -- document 02, N5
 abbrev pub refusalEnds : ℕ
 refusalEnds = 18

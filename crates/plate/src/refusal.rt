@@ -29,6 +29,12 @@ pub const LINE: usize = 13;
 
 pub const TEXT: usize = 14;
 
+pub const FULL: usize = 15;
+
+pub const SPENT: usize = 16;
+
+pub const NO_ENTRY: usize = 17;
+
 pub const ENDS: usize = 18;
 
 pub const BOUNDS: usize = 20;

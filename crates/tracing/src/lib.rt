@@ -12,6 +12,7 @@ ghost use Rattle.plate.specs.Refusals.{traceVerdict};
 ghost use Rattle.plate.specs.Answers.{tracedLevel, traceAfter};
 ghost use Rattle.theory.specs.Trace.{Shows};
 
+mod checks;
 mod draw;
 mod ended;
 mod far_end;
@@ -28,12 +29,10 @@ mod usable;
 
 use crate::shown::find_and_draw;
 use crate::usable::first_usable;
+pub use checks::judge_trace;
 use plate::Answer;
-use plate::Fills;
-use plate::Lent;
 use plate::Setting;
 use plate::Traced;
-use plate::refusal;
 
 // Writes the places of a path through the pixel at a place, in walking order, into the path buffer, and
 // returns the bit of its direction (document 01: way) and the pixel's filtered level; or refuses (1 to 8,
@@ -50,31 +49,21 @@ pub fn trace(
     ensures { λ r. ⌜ tracedLevel r ≡ traceVerdict width height setting (now (plate .entry)) at (length (now (path .entry))) (length (now (work .entry))) ⌝ }
     ensures { λ r. ⌜ traceAfter r (Shows setting width height (now (plate .entry)) at) (now (path .entry)) (now (path .exit)) (now (work .entry)) (now (work .exit)) ⌝ }
 {
-    let lent = Lent {
-        input: plate.len(),
-        fills: Fills::Path,
-        filled: path.len(),
-        work: work.len(),
-    };
-    let answer = plate::judge(width, height, setting, lent);
+    let answer = judge_trace(
+        width,
+        height,
+        setting,
+        at,
+        plate.len(),
+        path.len(),
+        work.len(),
+    );
     if let Answer::Refused { number, place } = answer {
         return Traced::Refused {
             number: number,
             place: place,
         };
     }
-    if at >= plate.len() {
-        return Traced::Refused {
-            number: refusal::PLACE,
-            place: 0,
-        };
-    }
     let first = first_usable(width, height, setting);
-    if first >= plate::DIRECTIONS {
-        return Traced::Refused {
-            number: refusal::NO_PATH,
-            place: 0,
-        };
-    }
     find_and_draw(width, height, plate, setting, at, first, path, work)
 }

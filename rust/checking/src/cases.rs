@@ -1,4 +1,6 @@
-//! The plates and texts that tests run on: those of the papers, and random plates with their settings.
+//! The plates, texts and books that tests run on: those of the papers, random plates with their settings, and
+//! random books.
+use crate::book::{Book, Entry, Key, Pixel, MAX_ENTRIES, MAX_SERIAL};
 use crate::plate::{ANYWHERE, CLOSING, EAST, NORTH, NORTH_EAST, ON_CRACK, OPENING, SOUTH_EAST};
 use crate::random::{plate, Kind, Random, KINDS};
 use crate::{Plate, Setting};
@@ -148,4 +150,35 @@ pub fn case(random: &mut Random, kind: Kind, width: usize, height: usize) -> (Pl
     let length = random.within(1, 60);
     let gaps = random.below(length.min(9));
     (plate, Setting::new(length, gaps, random.within(1, 15), random.below(2)))
+}
+
+/// A book put together by hand, right or wrong. Many have few keys and serial numbers, so that most come more
+/// than once; one in six shows more entries than it can have; half have something in their unused slots.
+pub fn any_book(random: &mut Random) -> Book {
+    let last = match random.below(4) {
+        0 => MAX_SERIAL - random.below(3) as u32,
+        1 => random.draw() as u32,
+        _ => random.below(300) as u32,
+    };
+    let shown = match random.below(6) {
+        0 => random.pick(&[257, 300, 65_536 + 3, (1 << 32) + 3, usize::MAX]),
+        1 | 2 => random.within(254, 256),
+        _ => random.below(9),
+    };
+    let (plates, serials) = random.pick(&[(2, 5), (2, 300), (65_536, 300)]);
+    let mut slots: Vec<Entry> =
+        (0..MAX_ENTRIES).map(|_| any_entry(random, plates, serials)).collect();
+    if random.below(2) == 0 {
+        slots.iter_mut().skip(shown).for_each(|slot| *slot = Entry::default());
+    }
+    Book { last, shown, slots }
+}
+
+/// An entry of these many plates and serial numbers, now and then of a mode or a direction that does not exist.
+fn any_entry(random: &mut Random, plates: usize, serials: usize) -> Entry {
+    let pixel = Pixel { plate: random.below(plates) as u16, place: random.below(3) };
+    let mode = random.pick(&[0, 0, 0, 1, 1, 1, 2, usize::MAX]);
+    let direction = random.pick(&[1, 2, 4, 8, 0, 3]);
+    let serial = random.below(serials) as u32;
+    Entry { serial, key: Key { pixel, mode }, level: random.draw() as i16, direction }
 }

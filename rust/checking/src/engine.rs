@@ -1,4 +1,5 @@
 //! The library's calls on the types of this package.
+use crate::book::{Book, Entry, Key, Pixel};
 use crate::{Plate, Refusal, Setting, Trace};
 use diilvak::{raw, Bounds, Directions, Ends, Mode};
 
@@ -57,5 +58,34 @@ pub fn filter_between(
 
 pub fn trace(traced: &Plate, chosen: Setting, at: usize) -> Result<Trace, Refusal> {
     let shown = diilvak::trace(&plate(traced), setting(chosen)?, at).map_err(refusal)?;
-    Ok(Trace { direction: shown.direction.bit(), level: shown.level, path: shown.path })
+    Ok(trace_of(shown))
+}
+
+/// The trace with the bit of its direction.
+pub fn trace_of(shown: diilvak::Trace) -> Trace {
+    Trace { direction: shown.direction.bit(), level: shown.level, path: shown.path }
+}
+
+pub fn pixel(Pixel { plate, place }: Pixel) -> diilvak::Pixel {
+    diilvak::Pixel { plate, place }
+}
+
+/// The same book for the library, to the last slot.
+pub fn book(book: &Book) -> raw::Book {
+    let entry = |entry: &Entry| {
+        let Entry { serial, key, level, direction } = *entry;
+        let Key { pixel: Pixel { plate, place }, mode } = key;
+        raw::Entry { serial, plate, place, mode, level, direction }
+    };
+    let entries = std::array::from_fn(|slot| entry(&book.slots[slot]));
+    raw::Book { last: book.last, count: book.shown, entries }
+}
+
+/// A book of the library, to the last slot.
+pub fn book_of(book: &raw::Book) -> Book {
+    let entry = |entry: &raw::Entry| {
+        let raw::Entry { serial, plate, place, mode, level, direction } = *entry;
+        Entry { serial, key: Key { pixel: Pixel { plate, place }, mode }, level, direction }
+    };
+    Book { last: book.last, shown: book.count, slots: book.entries.iter().map(entry).collect() }
 }

@@ -14,6 +14,14 @@ impl<T: Copy + PartialEq> Lent<T> {
         Lent { before: now.clone(), now }
     }
 
+    /// With these numbers between the guards.
+    pub fn holding(numbers: &[T], draw: impl FnMut() -> T) -> Lent<T> {
+        let mut lent = Lent::new(numbers.len(), draw);
+        lent.lend().copy_from_slice(numbers);
+        lent.before.copy_from_slice(&lent.now);
+        lent
+    }
+
     pub fn lend(&mut self) -> &mut [T] {
         let end = self.now.len() - GUARD;
         &mut self.now[GUARD..end]

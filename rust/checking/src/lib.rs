@@ -8,6 +8,7 @@
 //! * [`recursion`]: the published decomposition, by the number of pixels and gaps.
 //! * [`fast`]: the queue or the recursion, by where paths may end.
 //! * [`table`]: the refusal table; [`text`]: the survey program's text.
+//! * [`book`]: the findings book; [`histories`]: its worked histories, and what stands after any.
 //! * [`plate`]: plates, settings and directions as bare numbers; [`random`] and [`cases`]: plates of
 //!   fixed seeds, and the worked ones; [`lent`]: buffers that remember what they held; [`drawing`]: the
 //!   wall of the pictures, and how they are written.
@@ -18,11 +19,13 @@
 //! * `engine`: the library's calls on these types.
 //!
 //! "Section" and "demand" are those of document 01.
+pub mod book;
 pub mod cases;
 pub mod drawing;
 #[cfg(feature = "engine")]
 pub mod engine;
 pub mod fast;
+pub mod histories;
 pub mod lent;
 pub mod levels;
 pub mod listing;

@@ -1,5 +1,6 @@
 //! The refusal table of section 5: what each call is refused with, in the order of the numbers, but for
 //! 18 (document 02, N5), which comes with the setting, after 5.
+use crate::book::{Book, Key, Pixel, MAX_ENTRIES, MAX_SERIAL};
 use crate::plate::{bad_size, Refusal, Setting, CORRECTIONS, MAX_GAPS, MAX_LENGTH, MAX_READING};
 
 /// The lengths of the buffers lent to a filter or a trace. `result` is the path buffer of a trace.
@@ -146,6 +147,41 @@ pub fn trace(
         refuse(11)
     } else if s.chosen().all(|direction| direction.span(width, height) < s.length) {
         refuse(12)
+    } else {
+        Ok(())
+    }
+}
+
+/// Every check of a trace; then those of its entry (document 02, N3).
+pub fn enter(
+    width: usize,
+    height: usize,
+    s: Setting,
+    pixel: Pixel,
+    lengths: Lengths,
+    book: &Book,
+) -> Result<(), Refusal> {
+    trace(width, height, s, pixel.place, lengths)?;
+    entry(book, Key { pixel, mode: s.mode })
+}
+
+/// 15 and 16.
+pub fn entry(book: &Book, key: Key) -> Result<(), Refusal> {
+    let supersedes = book.standing().iter().any(|entry| entry.key == key);
+    if book.shown > MAX_ENTRIES || (book.shown == MAX_ENTRIES && !supersedes) {
+        refuse(15)
+    } else if book.last == MAX_SERIAL {
+        refuse(16)
+    } else {
+        Ok(())
+    }
+}
+
+pub fn withdraw(book: &Book, serial: u32) -> Result<(), Refusal> {
+    if book.shown > MAX_ENTRIES {
+        refuse(15)
+    } else if book.standing().iter().all(|entry| entry.serial != serial) {
+        refuse(17)
     } else {
         Ok(())
     }

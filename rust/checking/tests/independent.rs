@@ -1,8 +1,11 @@
 //! The methods that the library is held against, held against each other. Needs no library.
+use checking::book::{Book, Entry, Key, Pixel};
 use checking::cases::{self, case, rounds, small_case};
+use checking::histories::{play_worked, standing_after, Call, Event};
 use checking::listing::{self, admits, each_path, judge};
 use checking::plate::{ANYWHERE, BOTH_ENDS, CLOSING, DIRECTIONS, EAST, NORTH, ON_CRACK, OPENING};
 use checking::random::{Random, KINDS};
+use checking::table::{self, Lengths};
 use checking::{levels, queue, recursion, text, Plate, Refusal, Setting, Trace};
 
 type Filter = fn(&Plate, Setting) -> Plate;
@@ -56,6 +59,56 @@ fn worked_bounds() {
 fn worked_texts() {
     for (asked, answer) in cases::worked_texts() {
         assert_eq!(text::judge(asked.as_bytes(), answer.as_bytes()), Ok(()), "{asked}");
+    }
+}
+
+/// The findings book, with traces by the listing.
+#[test]
+fn worked_histories() {
+    play_worked(|row, call, book| {
+        let (width, height) = (row.width(), row.height());
+        let (verdict, after) = match call {
+            Call::Enter(setting, pixel) => {
+                let work = table::work_length(width, height, setting.gaps);
+                let lengths = Lengths { plate: row.pixels(), result: setting.length, work };
+                let verdict = table::enter(width, height, setting, pixel, lengths, book);
+                let after = verdict.map(|()| {
+                    let trace = listing::trace(row, setting, pixel.place).unwrap();
+                    book.entered(Key { pixel, mode: setting.mode }, trace.level, trace.direction)
+                });
+                (verdict, after)
+            }
+            Call::Withdraw(serial) => {
+                let verdict = table::withdraw(book, serial);
+                (verdict, verdict.map(|()| book.withdrawn(serial)))
+            }
+        };
+        let number = verdict.err().map_or(0, |refusal| refusal.number);
+        (number, after.unwrap_or_else(|_| book.clone()))
+    });
+}
+
+/// What the findings book keeps is what can be read off the accepted calls.
+#[test]
+fn books_are_their_histories() {
+    let mut random = Random(5);
+    for _ in 0..rounds(2_000, 60_000) {
+        let (mut book, mut events) = (Book::of(0, Vec::new()), Vec::new());
+        for _ in 0..random.within(1, 60) {
+            let pixel = Pixel { plate: random.below(2) as u16, place: random.below(2) };
+            let key = Key { pixel, mode: random.below(2) };
+            let serial = random.within(0, book.last as usize + 1) as u32;
+            if random.below(3) > 0 {
+                let (level, direction) = (random.draw() as i16, 1 << random.below(4));
+                assert_eq!(table::entry(&book, key), Ok(()));
+                book = book.entered(key, level, direction);
+                events.push(Event::Entered(Entry { serial: book.last, key, level, direction }));
+            } else if table::withdraw(&book, serial).is_ok() {
+                book = book.withdrawn(serial);
+                events.push(Event::Withdrawn(serial));
+            }
+            assert_eq!(book.standing(), standing_after(&events), "{events:?}");
+        }
     }
 }
 

@@ -138,21 +138,23 @@ pub fn filter_between(bounds: &Bounds, setting: Setting) -> Result<Bounds, Refus
 /// [`Refusal::BadPlace`] where the place is not on the plate; [`Refusal::NoPath`] where no path of this
 /// length goes through the pixel, which depends on the size, the length and the directions alone.
 pub fn trace(plate: &Plate, setting: Setting, at: usize) -> Result<Trace, Refusal> {
+    let (width, height, levels) = (plate.width(), plate.height(), plate.levels());
+    traced(plate, setting, |path, work, bit, level| {
+        raw::trace(width, height, levels, setting.into(), at, path, work, bit, level)
+    })
+}
+
+/// What a C function shows that traces: it is lent a path, a work buffer and two numbers, for the bit of the
+/// direction and the level, and answers with a number.
+pub(crate) fn traced(
+    plate: &Plate,
+    setting: Setting,
+    call: impl FnOnce(&mut [usize], &mut [u16], &mut usize, &mut i16) -> usize,
+) -> Result<Trace, Refusal> {
     let mut path = vec![0; setting.length()];
     let mut work = work_for(plate, setting);
     let (mut bit, mut level) = (0, 0);
-    let number = raw::trace(
-        plate.width(),
-        plate.height(),
-        plate.levels(),
-        setting.into(),
-        at,
-        &mut path,
-        &mut work,
-        &mut bit,
-        &mut level,
-    );
-    done(number, 0)?;
+    done(call(&mut path, &mut work, &mut bit, &mut level), 0)?;
     let direction = Direction::from_bit(bit).expect("the direction is one of the setting's");
     Ok(Trace { direction, level, path })
 }
@@ -181,7 +183,8 @@ fn work_for(plate: &Plate, setting: Setting) -> Vec<u16> {
     vec![0; raw::work_length(plate.width(), plate.height(), setting.gaps())]
 }
 
-fn done(number: usize, place: usize) -> Result<(), Refusal> {
+/// The answer of a C function by its number, with the place that it reported.
+pub(crate) fn done(number: usize, place: usize) -> Result<(), Refusal> {
     if number == 0 {
         return Ok(());
     }

@@ -1,9 +1,9 @@
-//! The numbers of `include/diilvak.h`, under the names that they have there after `DIILVAK_`.
-//! tests/numbers.rs holds them to the header and to the proved code.
+//! The numbers of `include/diilvak.h` and `include/diilvak_book.h`, under the names that they have there
+//! after `DIILVAK_`. tests/numbers.rs holds them to the headers and to the proved code.
 
-/// This version, 0.5.0, as one number: major × 10000 + minor × 100 + patch. [`version`](crate::version)
+/// This version, 0.6.0, as one number: major × 10000 + minor × 100 + patch. [`version`](crate::version)
 /// answers that of the library which is linked.
-pub const VERSION: usize = 500;
+pub const VERSION: usize = 600;
 
 /// The largest width or height of a plate.
 pub const MAX_SIDE: usize = 1024;
@@ -25,9 +25,18 @@ pub const MAX_DIRECTIONS: usize = 15;
 pub const MAX_MODE: usize = 1;
 /// The last number for the ends of a path.
 pub const MAX_ENDS: usize = 1;
+/// How many entries can stand in a findings book.
+pub const MAX_ENTRIES: usize = 256;
+/// The last serial number that a findings book gives.
+pub const MAX_SERIAL: u32 = 4_294_967_295;
 
 /// The stack, in bytes, that a filter finds room in, between two plates too, whatever the plate and the
 /// setting. No other call takes as much.
 pub const FILTER_STACK: usize = 196_608;
 /// The stack, in bytes, that a trace finds room in.
 pub const TRACE_STACK: usize = 98_304;
+/// The stack, in bytes, that the C function which enters a trace finds room in, beside the books that it is
+/// handed and hands back.
+pub const ENTER_STACK: usize = 131_072;
+/// The same of the C function that withdraws entries.
+pub const WITHDRAW_STACK: usize = 98_304;

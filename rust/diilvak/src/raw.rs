@@ -1,4 +1,5 @@
-//! The C functions of `include/diilvak.h` on slices, where their contracts stand.
+//! The C functions of `include/diilvak.h` and `include/diilvak_book.h` on slices; the headers have their
+//! contracts.
 //!
 //! Numbers and buffers of any length may be lent: the library refuses wrong ones by number, and 0 is
 //! done. [`Refusal::from_number`](crate::Refusal::from_number) gives a number its name.
@@ -15,6 +16,10 @@
 //! assert_eq!(result, [9, 9, 9, 1]);
 //! # Ok::<(), diilvak::Refusal>(())
 //! ```
+
+mod book;
+
+pub use book::{enter_trace, new_book, withdraw, Book, Entry, Kept, Pixel};
 
 /// The declarations of `include/diilvak.h`; nothing but the tests holds the two together.
 mod c {

@@ -1,6 +1,7 @@
 //! The refusals of the library, by name.
 use crate::limits::{
-    MAX_CORRECTION, MAX_GAPS, MAX_LENGTH, MAX_PIXELS, MAX_READING, MAX_SIDE, MIN_CORRECTION,
+    MAX_CORRECTION, MAX_ENTRIES, MAX_GAPS, MAX_LENGTH, MAX_PIXELS, MAX_READING, MAX_SERIAL,
+    MAX_SIDE, MIN_CORRECTION,
 };
 use std::fmt;
 
@@ -40,6 +41,13 @@ pub enum Refusal {
     BadPlace,
     /// 12: no path of this length, in one of the directions, goes through the pixel.
     NoPath,
+    /// 15: [`MAX_ENTRIES`] entries stand in the book and none has the plate number, the place and the mode;
+    /// or the book shows more than that.
+    BookFull,
+    /// 16: the book has given its last serial number, [`MAX_SERIAL`].
+    SerialsSpent,
+    /// 17: no entry that stands in the book has the serial number.
+    NoEntry,
     /// 18: the ends are neither anywhere nor on crack. It is judged after 5 and before 6.
     BadEnds,
     /// 20: a level of the lowest plate is above that of the highest.
@@ -73,6 +81,9 @@ impl Refusal {
             10 => Refusal::BadCorrection { place },
             11 => Refusal::BadPlace,
             12 => Refusal::NoPath,
+            15 => Refusal::BookFull,
+            16 => Refusal::SerialsSpent,
+            17 => Refusal::NoEntry,
             18 => Refusal::BadEnds,
             20 => Refusal::BadBounds { place },
             _ => return None,
@@ -94,6 +105,9 @@ impl Refusal {
             Refusal::BadCorrection { .. } => 10,
             Refusal::BadPlace => 11,
             Refusal::NoPath => 12,
+            Refusal::BookFull => 15,
+            Refusal::SerialsSpent => 16,
+            Refusal::NoEntry => 17,
             Refusal::BadEnds => 18,
             Refusal::BadBounds { .. } => 20,
         }
@@ -137,6 +151,11 @@ impl fmt::Display for Refusal {
             }
             Refusal::BadPlace => f.write_str("the place is not on the plate"),
             Refusal::NoPath => f.write_str("no path of this length goes through the pixel"),
+            Refusal::BookFull => {
+                write!(f, "no room beside {MAX_ENTRIES} entries, or more are shown")
+            }
+            Refusal::SerialsSpent => write!(f, "the last serial number, {MAX_SERIAL}, was given"),
+            Refusal::NoEntry => f.write_str("no entry of this serial number stands"),
             Refusal::BadEnds => f.write_str("the ends are neither 0 nor 1"),
             Refusal::BadBounds { .. } => f.write_str("the lowest level is above the highest"),
         }

@@ -1,19 +1,10 @@
-//! The C examples compile without a warning, and print what the documents say. The header also compiles
-//! by itself, as C and as C++.
+//! The C examples compile without a warning, and print what the documents say. The headers also compile
+//! by themselves, as C and as C++.
+mod c;
+
+use c::{root, run};
 use std::path::PathBuf;
 use std::process::Command;
-
-fn root() -> PathBuf {
-    PathBuf::from(env!("CARGO_MANIFEST_DIR")).join("../..")
-}
-
-fn run(command: &mut Command) -> String {
-    let output = command.output().unwrap_or_else(|fault| panic!("{command:?}: {fault}"));
-    let text = |bytes: &[u8]| String::from_utf8_lossy(bytes).into_owned();
-    let said = text(&output.stderr);
-    assert!(output.status.success() && said.is_empty(), "{command:?}: {said}");
-    text(&output.stdout)
-}
 
 /// What an example prints.
 fn printed(name: &str) -> String {
@@ -41,11 +32,28 @@ fn between_prints_the_example() {
 }
 
 #[test]
-fn header_compiles_by_itself() {
-    for language in ["c", "c++"] {
-        run(Command::new("cc")
-            .args(["-Wall", "-Wextra", "-pedantic", "-fsyntax-only", "-x", language])
-            .args(["-include", "include/diilvak.h", "/dev/null"])
-            .current_dir(root()));
+fn book_prints_the_example() {
+    let expected = [
+        "enter=7,0,0 serial=1 level=8 standing=1:8",
+        "enter=7,1,0 serial=2 level=5 standing=1:8,2:5",
+        "enter=7,0,1 serial=3 level=9 standing=1:8,2:5,3:9",
+        "enter=7,0,0 serial=4 level=8 standing=2:5,3:9,4:8",
+        "withdraw=1 refused=17 standing=2:5,3:9,4:8",
+        "withdraw=4 standing=2:5,3:9",
+        "withdraw=4 refused=17 standing=2:5,3:9",
+        "enter=7,0,0 serial=5 level=8 standing=2:5,3:9,5:8",
+    ];
+    assert_eq!(printed("book").lines().collect::<Vec<_>>(), expected);
+}
+
+#[test]
+fn headers_compile_by_themselves() {
+    for header in ["include/diilvak.h", "include/diilvak_book.h"] {
+        for language in ["c", "c++"] {
+            run(Command::new("cc")
+                .args(["-Wall", "-Wextra", "-pedantic", "-fsyntax-only", "-x", language])
+                .args(["-include", header, "/dev/null"])
+                .current_dir(root()));
+        }
     }
 }

@@ -1,21 +1,15 @@
-//! Limits, refusals, bits, modes, ends and the version: the proved code (crates/, read as text), the header
+//! Limits, refusals, bits, modes, ends and the version: the proved code (crates/, read as text), the headers
 //! (read as text, and compiled) and this package have the same names with the same numbers, none
 //! missing. The names differ by a rule alone: a limit has one name, the refusal SIZE is DIILVAK_BAD_SIZE
-//! and `Refusal::BadSize`, and `Ends::OnCrack` is DIILVAK_ENDS_ON_CRACK.
+//! and `Refusal::BadSize`, FULL and SPENT name what is full and spent (BOOK_FULL, SERIALS_SPENT), and
+//! `Ends::OnCrack` is DIILVAK_ENDS_ON_CRACK.
+mod c;
+
+use c::{all_true_in_c, read};
 use diilvak::{raw, Direction, Ends, Mode, Refusal};
 use std::collections::BTreeMap;
-use std::path::PathBuf;
-use std::process::Command;
 
 type Numbers = BTreeMap<String, i64>;
-
-fn root() -> PathBuf {
-    PathBuf::from(env!("CARGO_MANIFEST_DIR")).join("../..")
-}
-
-fn read(file: &str) -> String {
-    std::fs::read_to_string(root().join(file)).unwrap_or_else(|fault| panic!("{file}: {fault}"))
-}
 
 /// Adds a number to those of `file`; a name that comes twice is an error.
 fn add(numbers: &mut Numbers, file: &str, name: &str, value: &str) {
@@ -44,21 +38,23 @@ fn constants(files: &[&str]) -> Numbers {
     numbers
 }
 
-/// The numbers of the header's macros, by their names after `DIILVAK_`.
+/// The numbers of both headers' macros, by their names after `DIILVAK_`.
 fn macros() -> Numbers {
     let mut numbers = Numbers::new();
-    for line in read("include/diilvak.h").lines() {
-        let mut words = line.strip_prefix("#define DIILVAK_").unwrap_or("").split(' ');
-        match (words.next(), words.next()) {
-            (Some("H" | ""), None) => {}
-            (Some(name), Some(value)) => add(&mut numbers, "include/diilvak.h", name, value),
-            (name, value) => panic!("a macro {name:?} with {value:?}"),
+    for header in ["include/diilvak.h", "include/diilvak_book.h"] {
+        for line in read(header).lines() {
+            let mut words = line.strip_prefix("#define DIILVAK_").unwrap_or("").split(' ');
+            match (words.next(), words.next()) {
+                (Some("H" | "BOOK_H" | ""), None) => {}
+                (Some(name), Some(value)) => add(&mut numbers, header, name, value),
+                (name, value) => panic!("a macro {name:?} with {value:?}"),
+            }
         }
     }
     numbers
 }
 
-/// The header's macros of some kind, each taken out of the rest.
+/// The headers' macros of some kind, each taken out of the rest.
 fn taken(rest: &mut Numbers, kind: impl Fn(&str) -> bool) -> Numbers {
     let all = std::mem::take(rest);
     let (found, others) = all.into_iter().partition(|(name, _)| kind(name));
@@ -96,13 +92,18 @@ fn refusals_of_the_package() -> Numbers {
     numbers
 }
 
-/// The refusals of the proved code by the header's names. Those of texts are the program's alone.
+/// The refusals of the proved code by the headers' names. Those of texts are the program's alone.
 fn refusals_of_the_code() -> Numbers {
     let mut numbers = constants(&["crates/plate/src/refusal.rt"]);
     for of_texts in ["LINE", "TEXT"] {
         assert!(numbers.remove(of_texts).is_some(), "{of_texts}");
     }
-    let named = |name: String| if name == "NO_PATH" { name } else { format!("BAD_{name}") };
+    let named = |name: String| match name.as_str() {
+        "NO_PATH" | "NO_ENTRY" => name,
+        "FULL" => "BOOK_FULL".to_string(),
+        "SPENT" => "SERIALS_SPENT".to_string(),
+        _ => format!("BAD_{name}"),
+    };
     numbers.into_iter().map(|(name, number)| (named(name), number)).collect()
 }
 
@@ -121,22 +122,24 @@ fn limits() {
         "crates/plate/src/size.rt",
         "crates/plate/src/faults.rt",
         "crates/plate/src/setting.rt",
+        "crates/book/src/lib.rt",
     ]);
     let limit = |name: &str| name.starts_with("MAX_") || name.starts_with("MIN_");
     assert_eq!(taken(&mut macros(), limit), code);
     let mut package = constants(&["rust/diilvak/src/limits.rs"]);
     assert_eq!(taken(&mut package, limit), code);
-    // What is left in the package is in the header too.
+    // What is left in the package is in a header too.
     for (name, number) in &package {
         assert_eq!(macros().get(name), Some(number), "{name}");
     }
-    assert_eq!(package.into_keys().collect::<Vec<_>>(), ["FILTER_STACK", "TRACE_STACK", "VERSION"]);
+    let left = "ENTER_STACK FILTER_STACK TRACE_STACK VERSION WITHDRAW_STACK";
+    assert_eq!(package.into_keys().collect::<Vec<_>>(), left.split(' ').collect::<Vec<_>>());
 }
 
 #[test]
 fn refusals() {
     let code = refusals_of_the_code();
-    let refusal = |name: &str| name.starts_with("BAD_") || name == "NO_PATH";
+    let refusal = |name: &str| name.starts_with("BAD_") || code.contains_key(name);
     assert_eq!(taken(&mut macros(), refusal), code);
     assert_eq!(refusals_of_the_package(), code);
     // In the order of judgement: by rising number, but 18 belongs to the setting, after 5.
@@ -155,15 +158,16 @@ fn directions_modes_and_ends() {
     assert_eq!(taken(&mut macros(), |name| package.contains_key(name)), package);
 }
 
-/// Nothing else is in the header.
+/// Nothing else is in the headers.
 #[test]
 fn every_macro_is_known() {
     let mut rest = macros();
     taken(&mut rest, |name| name.starts_with("MAX_") || name.starts_with("MIN_"));
     taken(&mut rest, |name| name.starts_with("BAD_") || name.ends_with("_STACK"));
     let rest: Vec<String> = rest.into_keys().collect();
-    let known = "CLOSING DONE EAST ENDS_ANYWHERE ENDS_ON_CRACK NORTH NORTH_EAST NO_PATH OPENING \
-                 SOUTH_EAST VERSION";
+    let known =
+        "BOOK_FULL CLOSING DONE EAST ENDS_ANYWHERE ENDS_ON_CRACK NORTH NORTH_EAST NO_ENTRY \
+                 NO_PATH OPENING SERIALS_SPENT SOUTH_EAST VERSION";
     assert_eq!(rest, known.split(' ').collect::<Vec<_>>());
 }
 
@@ -178,21 +182,9 @@ fn version() {
     assert_eq!(parts.fold(0, |number, part| 100 * number + part), code);
 }
 
-/// A C compiler reads the header's numbers as this test does.
+/// A C compiler reads the headers' numbers as this test does.
 #[test]
-fn compiled_header() {
-    let mut source = "#include \"diilvak.h\"\n".to_string();
-    for (name, number) in macros() {
-        source += &format!("_Static_assert(DIILVAK_{name} == {number}, \"{name}\");\n");
-    }
-    for (name, number) in refusals_of_the_code() {
-        source += &format!("_Static_assert(DIILVAK_{name} == {number}, \"{name}\");\n");
-    }
-    let file = PathBuf::from(env!("CARGO_TARGET_TMPDIR")).join("numbers.c");
-    std::fs::write(&file, source).unwrap();
-    let mut cc = Command::new("cc");
-    cc.args(["-std=c11", "-Wall", "-Wextra", "-fsyntax-only", "-Iinclude"]).arg(&file);
-    let output = cc.current_dir(root()).output().unwrap_or_else(|fault| panic!("cc: {fault}"));
-    let said = String::from_utf8_lossy(&output.stderr);
-    assert!(output.status.success() && said.is_empty(), "{said}");
+fn compiled_headers() {
+    let numbers = macros().into_iter().chain(refusals_of_the_code());
+    all_true_in_c("numbers.c", numbers.map(|(name, number)| format!("DIILVAK_{name} == {number}")));
 }

@@ -1,14 +1,22 @@
-//! Filter, between two plates too, and trace in threads with no more stack than the header says they find
-//! room in. A call that takes more ends the whole run.
-use diilvak::limits::{FILTER_STACK, TRACE_STACK};
-use diilvak::{raw, Directions, Ends, Mode, Setting};
+//! Filter, between two plates too, trace, and the calls of the findings book in threads with no more stack
+//! than the headers say they find room in. A call that takes more ends the whole run.
+use diilvak::limits::{
+    ENTER_STACK, FILTER_STACK, MAX_ENTRIES, MAX_SERIAL, TRACE_STACK, WITHDRAW_STACK,
+};
+use diilvak::{raw, Directions, Ends, Mode, Pixel, Setting};
 
 /// What the thread itself takes: its start, its thread-local storage, and the frames of this test.
 const THREAD: usize = 16 * 1024;
 
+/// The books that lie in the frames of this test: a copy to be handed over, the same as an argument of the C
+/// function, and the one that is handed back.
+const BOOKS: usize = 3 * size_of::<raw::Kept>();
+
 /// The largest square plate, with all gaps: paths of 300 pixels fit on the diagonals alone.
 const SIDE: usize = 256;
 const LENGTHS: [usize; 2] = [100, 300];
+/// In the middle of it.
+const AT: usize = SIDE * SIDE / 2 + SIDE / 2;
 
 /// By both lengths, with both kinds of ends.
 fn settings() -> impl Iterator<Item = raw::Setting> {
@@ -66,12 +74,51 @@ fn trace() {
     for setting in settings() {
         let (plate, mut path, mut work) = (plate(), vec![0; setting.length], work());
         let (mut direction, mut level) = (0, 0);
-        let at = SIDE * SIDE / 2 + SIDE / 2;
         let call = || {
             let (d, l) = (&mut direction, &mut level);
-            raw::trace(SIDE, SIDE, &plate, setting, at, &mut path, &mut work, d, l)
+            raw::trace(SIDE, SIDE, &plate, setting, AT, &mut path, &mut work, d, l)
         };
         assert_eq!(within(TRACE_STACK, call), 0);
-        assert!(path.contains(&at));
+        assert!(path.contains(&AT));
+    }
+}
+
+/// A full book, of the plates 0 to 255 at the traced place.
+fn full_book(last: u32) -> Box<raw::Book> {
+    let mut book = Box::new(raw::new_book());
+    for (plate, entry) in (0..).zip(&mut book.entries) {
+        *entry = raw::Entry { serial: plate + 1, plate: plate as u16, place: AT, ..*entry };
+    }
+    (book.last, book.count) = (last, MAX_ENTRIES);
+    book
+}
+
+/// An entry that supersedes another; one for which there is no room, and one without a serial number.
+#[test]
+fn enter_trace() {
+    for setting in settings() {
+        let cases = [(256, 5, 0), (256, 256, 15), (MAX_SERIAL, 5, 16)];
+        for (last, number, expected) in cases {
+            let (plate, mut path, mut work) = (plate(), vec![0; setting.length], work());
+            let (mut direction, mut level) = (0, 0);
+            let book = full_book(last);
+            let call = || {
+                let (p, w, d, l) = (&mut path, &mut work, &mut direction, &mut level);
+                let pixel = Pixel { plate: number, place: AT };
+                let handed = (*book).clone();
+                raw::enter_trace(SIDE, SIDE, &plate, setting, pixel, handed, p, w, d, l).number
+            };
+            assert_eq!(within(ENTER_STACK + BOOKS, call), expected);
+            assert_eq!(path.contains(&AT), expected == 0);
+        }
+    }
+}
+
+#[test]
+fn withdraw() {
+    for (serial, expected) in [(6, 0), (257, 17)] {
+        let book = full_book(256);
+        let call = || raw::withdraw((*book).clone(), serial).number;
+        assert_eq!(within(WITHDRAW_STACK + BOOKS, call), expected);
     }
 }

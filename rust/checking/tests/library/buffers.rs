@@ -1,5 +1,6 @@
 //! The lengths of lent buffers.
-use crate::calls::{between_call, correct_call, filter_call, trace_call};
+use crate::calls::{between_call, correct_call, filter_call};
+use crate::traces::trace_call;
 use checking::cases::{rounds, small_case};
 use checking::engine::numbers;
 use checking::plate::{bad_size, OPENING};

@@ -1,10 +1,9 @@
 //! Single calls with noise in all lent buffers, held to the refusal table.
-use checking::engine::{self, numbers};
+use checking::engine::numbers;
 use checking::lent::Lent;
-use checking::listing::judge_shown;
 use checking::random::Random;
 use checking::table::{self, Between, Lengths};
-use checking::{fast, Plate, Refusal, Setting, Trace};
+use checking::{fast, Plate, Refusal, Setting};
 use diilvak::raw;
 
 /// The number of a verdict, 0 where it is accepted.
@@ -76,55 +75,6 @@ pub fn between_call(
     } else {
         let untouched = low.untouched() && high.untouched() && work.untouched();
         assert!(untouched, "{call}: a refusal changed a buffer");
-    }
-    found
-}
-
-/// The same of a trace.
-pub fn trace_call(
-    random: &mut Random,
-    (width, height): (usize, usize),
-    setting: Setting,
-    at: usize,
-    lengths: Lengths,
-) -> usize {
-    let mut plate = Lent::new(lengths.plate, || random.draw() as i16);
-    let mut path = Lent::new(lengths.result, || random.draw() as usize);
-    let mut work = Lent::new(lengths.work, || random.draw() as u16);
-    let mut direction = Lent::new(1, || random.draw() as usize);
-    let mut level = Lent::new(1, || random.draw() as i16);
-    let found = raw::trace(
-        width,
-        height,
-        plate.lend(),
-        numbers(setting),
-        at,
-        path.lend(),
-        work.lend(),
-        &mut direction.lend()[0],
-        &mut level.lend()[0],
-    );
-    let call = format!("trace {width} × {height} {setting:?} at {at} {lengths:?}");
-    assert_eq!(found, number(table::trace(width, height, setting, at, lengths)), "{call}");
-    assert!(plate.untouched(), "{call}: the plate changed");
-    if found == 0 {
-        assert!(path.guards_untouched() && work.guards_untouched(), "{call}: beyond a buffer");
-        assert!(
-            direction.guards_untouched() && level.guards_untouched(),
-            "{call}: beyond a number"
-        );
-        let plate = Plate::new(width, height, plate.lend().to_vec()).unwrap();
-        let trace = Trace {
-            direction: direction.lend()[0],
-            level: level.lend()[0],
-            path: path.lend().to_vec(),
-        };
-        let filtered = fast::filter(&plate, setting);
-        let again = engine::trace(&filtered, setting, at);
-        assert_eq!(judge_shown(&plate, setting, at, &trace, &filtered, &again), Ok(()), "{call}");
-    } else {
-        assert!(path.untouched() && work.untouched(), "{call}: a refusal changed a buffer");
-        assert!(direction.untouched() && level.untouched(), "{call}: a refusal changed a number");
     }
     found
 }

@@ -1,5 +1,6 @@
 //! A crack ends on crack (document 02, N5): where the ends of a path may be gaps, and where they may not.
-use crate::calls::{filter_call, trace_call};
+use crate::calls::filter_call;
+use crate::traces::trace_call;
 use checking::cases::{case, rounds, small_case, worked_ends};
 use checking::engine::{self, numbers};
 use checking::plate::{BOTH_ENDS, CLOSING, EAST, ON_CRACK, OPENING};

@@ -1,6 +1,9 @@
 //! Calls with any numbers and buffers: which refusal comes, and what it leaves.
-use crate::calls::{between_call, correct_call, filter_call, number, trace_call};
-use checking::cases::rounds;
+use crate::calls::{between_call, correct_call, filter_call, number};
+use crate::faults::{any_call, any_length, any_setting, any_size, AnyCall};
+use crate::traces::{enter_call, noise, trace_call, withdraw_call, Asked};
+use checking::book::{Key, Pixel};
+use checking::cases::{any_book, rounds};
 use checking::engine::{self, numbers};
 use checking::plate::{bad_size, CORRECTIONS, MAX_READING, OPENING};
 use checking::random::Random;
@@ -21,51 +24,6 @@ fn worked_refusals() {
     assert_eq!(engine::trace(&pixel, set(2, 1, 15, OPENING), 0), no_path);
     assert_eq!(number(engine::setting(set(9, 8, 1, 0)).map(|_| ())), 0);
     assert_eq!(number(engine::setting(set(8, 8, 1, 0)).map(|_| ())), 3);
-}
-
-/// A size: mostly a small one, else one at or past the limits.
-fn any_size(random: &mut Random) -> (usize, usize) {
-    const SIDES: [usize; 8] = [0, 1, 257, 1024, 1025, 65_536, 1 << 32, usize::MAX];
-    match random.below(6) {
-        // With both sides at 257 or 1024 the product is too large.
-        0 => (random.pick(&SIDES), random.pick(&SIDES)),
-        1 => (random.within(1, 5), random.pick(&[0, 1025, usize::MAX])),
-        _ => (random.within(1, 5), random.within(1, 5)),
-    }
-}
-
-fn any_setting(random: &mut Random) -> Setting {
-    let mut draw = |right: [usize; 2], wrong: &[usize]| match random.below(8) {
-        0 => random.pick(wrong),
-        _ => random.within(right[0], right[1]),
-    };
-    let length = draw([1, 7], &[0, 9, 1024, 1025, usize::MAX]);
-    let gaps = draw([0, length.clamp(1, 9) - 1], &[8, 9, length, usize::MAX]);
-    let directions = draw([1, 15], &[0, 16, usize::MAX]);
-    let mode = draw([0, 1], &[2, usize::MAX]);
-    Setting { length, gaps, directions, mode, ends: draw([0, 1], &[2, usize::MAX]) }
-}
-
-/// The right length, or now and then another near it.
-fn any_length(random: &mut Random, right: usize) -> usize {
-    let right = right.min(4000);
-    match random.below(12) {
-        0 => 0,
-        1 => right.saturating_sub(1),
-        2 => right + 1,
-        _ => right,
-    }
-}
-
-/// A work buffer for the setting, or now and then another. Calls of full plates that are not refused belong
-/// to other tests.
-fn any_work(random: &mut Random, setting: Setting, pixels: usize) -> usize {
-    let work = any_length(random, 4 * (setting.gaps.min(8) + 1) * pixels);
-    if pixels > 400 {
-        work.min(3000)
-    } else {
-        work
-    }
 }
 
 /// A lowest and a highest plate; on half of them some levels of the highest are any.
@@ -91,25 +49,15 @@ fn refusals_follow_the_table() {
     let mut traces = [0; NUMBERS];
     let mut corrections = [0; NUMBERS];
     for _ in 0..rounds(40_000, 1_000_000) {
-        let size = any_size(&mut random);
-        let pixels = if bad_size(size.0, size.1) { 5 } else { size.0 * size.1 };
-        let setting = any_setting(&mut random);
+        let AnyCall { size, pixels, setting, at, lengths } = any_call(&mut random);
         assert_eq!(
             raw::check_setting(numbers(setting)),
             number(table::setting(setting)),
             "{setting:?}"
         );
-        let work = any_work(&mut random, setting, pixels);
-        let lengths = Lengths {
-            plate: any_length(&mut random, pixels),
-            result: any_length(&mut random, pixels),
-            work,
-        };
-        filters[filter_call(&mut random, size, setting, lengths)] += 1;
-        let lengths = Lengths { result: any_length(&mut random, setting.length), ..lengths };
-        let past = random.pick(&[pixels, pixels + 1, usize::MAX]);
-        let at = if random.below(8) == 0 { past } else { random.below(pixels) };
         traces[trace_call(&mut random, size, setting, at, lengths)] += 1;
+        let lengths = Lengths { result: any_length(&mut random, pixels), ..lengths };
+        filters[filter_call(&mut random, size, setting, lengths)] += 1;
 
         let one_in_ten = |random: &mut Random| random.below(10) == 0;
         let readings: Vec<u16> = (0..any_length(&mut random, pixels))
@@ -144,10 +92,8 @@ fn refusals_between_two_plates() {
     let mut counts = [BTreeMap::new(), BTreeMap::new()];
     let mut later = 0;
     for _ in 0..rounds(40_000, 1_000_000) {
-        let size = any_size(&mut random);
-        let pixels = if bad_size(size.0, size.1) { 5 } else { size.0 * size.1 };
-        let setting = any_setting(&mut random);
-        let work = any_work(&mut random, setting, pixels);
+        let AnyCall { size, pixels, setting, lengths: Lengths { work, .. }, .. } =
+            any_call(&mut random);
         let [lowest, highest] = any_bounds(&mut random, pixels);
         let results = [any_length(&mut random, pixels), any_length(&mut random, pixels)];
         let lent = Between { lowest: &lowest, highest: &highest, results, work };
@@ -162,6 +108,51 @@ fn refusals_between_two_plates() {
     assert!(crossing.keys().eq(&[1, 2, 3, 4, 5, 6, 7, 8, 18, 20]), "{crossing:?}");
     assert!(later > 0, "20 past the first pixel");
     println!("calls between two plates by number, in order {in_order:?}, crossing {crossing:?}");
+}
+
+/// The same of traces that are to be entered, in books of any kind: the trace's own refusals come first,
+/// whatever the book would say, and what it says comes last.
+#[test]
+fn refusals_of_entering() {
+    let mut random = Random(70);
+    let mut by_book = BTreeMap::new();
+    for _ in 0..rounds(40_000, 1_000_000) {
+        let AnyCall { size, setting, at, lengths, .. } = any_call(&mut random);
+        let levels = noise(&mut random, lengths.plate);
+        let asked = Asked { size, levels: &levels, setting, at, lengths };
+        let book = any_book(&mut random);
+        let pixel = Pixel { plate: random.below(3) as u16, place: at };
+        let says = number(table::entry(&book, Key { pixel, mode: setting.mode }));
+        let found = enter_call(&mut random, asked, pixel.plate, &book).err().unwrap_or(0);
+        *by_book.entry(says).or_insert(BTreeMap::new()).entry(found).or_insert(0) += 1;
+    }
+    for (says, numbers) in &by_book {
+        let mut expected = vec![1, 2, 3, 4, 5, 6, 7, 8, 11, 12, 18, *says];
+        expected.sort();
+        assert!(numbers.keys().eq(&expected), "{says}: {numbers:?}");
+    }
+    assert!(by_book.keys().eq(&[0, 15, 16]), "{by_book:?}");
+    println!("enterings by what the book would say, and by number: {by_book:?}");
+}
+
+/// The same of withdrawals, of serial numbers that stand and of others.
+#[test]
+fn refusals_of_withdrawing() {
+    let mut random = Random(71);
+    let mut counts = BTreeMap::new();
+    for _ in 0..rounds(10_000, 200_000) {
+        let book = any_book(&mut random);
+        let others = [0, 3, 299, 300, book.last, book.last.wrapping_add(1)];
+        let serial = match book.standing() {
+            [] => random.pick(&others),
+            _ if random.below(3) == 0 => random.pick(&others),
+            standing => random.pick(standing).serial,
+        };
+        let found = withdraw_call(&book, serial).err().unwrap_or(0);
+        *counts.entry(found).or_insert(0) += 1;
+    }
+    assert!(counts.keys().eq(&[0, 15, 17]), "{counts:?}");
+    println!("withdrawals by number: {counts:?}");
 }
 
 /// The package takes exactly the sizes and settings that the table lets pass.

@@ -3,8 +3,8 @@ use mathlib.Core.Path.{sym, ap}
 use borrow.Author.Needs.{needs}
 use Rattle.plate.specs.Answers.{answered}
 use Rattle.diilvak.specs.Numbers.{numberOf, placeOf}
-use Rattle.diilvak.proofs.tell.Statement.{statement}
-use Rattle.diilvak.proofs.tell.Tie as tie
+use Rattle.diilvak.proofs.telling.tell.Statement.{statement}
+use Rattle.diilvak.proofs.telling.tell.Tie as tie
 
 enum-told : tie.Need-enum-told
 enum-told c = search needs

@@ -1,0 +1,4 @@
+pub mod Entries
+pub mod Refusals
+pub mod History
+pub mod WorkedHistories
