@@ -1,15 +1,17 @@
 //! Filter and trace against the ordered queue and against one scan a level, with ends on crack against
-//! ends anywhere, the filter between two plates against that of one, and the correction against two
-//! searches and a sum: the same plates, the same run, one thread. Times are processor time, so that other
-//! work on the machine counts little: the best of three calls, or one call where that takes over two
-//! seconds, with each method's own buffers (the library's are cleared first). The results are compared.
+//! ends anywhere, the filter between two plates against that of one, a trace that is entered in a book
+//! against one that is not, and the correction against two searches and a sum: the same plates, the same
+//! run, one thread. Times are processor time, so that other work on the machine counts little: the best of
+//! three calls, or one call where that takes over two seconds, with each method's own buffers (the library's
+//! are cleared first). The results are compared.
 //!
 //! `cargo run --release --bin bench [all]`: one scan a level is run where it ends in some seconds, and
 //! with `all` on every plate, which takes some minutes.
 use checking::plate::BOTH_ENDS;
 use checking::random::{plate, Kind, Random};
 use checking::{engine, fast, levels, queue, table, Plate, Setting};
-use diilvak::{raw, Bounds};
+use diilvak::limits::MAX_ENTRIES;
+use diilvak::{raw, Book, Bounds, Pixel};
 use std::hint::black_box;
 
 /// The processor time that this process has taken, in seconds.
@@ -42,6 +44,14 @@ fn time<T>(mut call: impl FnMut() -> T) -> (f64, T) {
         }
     }
     unreachable!()
+}
+
+/// The last answer of so many calls.
+fn again<T>(times: usize, mut call: impl FnMut() -> T) -> T {
+    for _ in 1..times {
+        black_box(call());
+    }
+    call()
 }
 
 /// The library's times for a filter and a trace in the plate's middle, and the filtered plate.
@@ -147,6 +157,38 @@ fn between() {
     );
 }
 
+/// A trace that is entered in a full book, beside the trace alone: microseconds. On the second plate a trace
+/// is so short that the book can be seen.
+fn entering() {
+    const TIMES: usize = 100;
+    println!(
+        "\n| plate | L | k | trace, microseconds | entered in a full book | entered / trace |"
+    );
+    println!("|---|---|---|---|---|---|");
+    for (width, height, length, gaps) in [(256, 256, 30, 2), (8, 8, 4, 1)] {
+        let from = engine::plate(&plate(&mut Random(256), Kind::Wall, width, height));
+        let setting = engine::setting(Setting::new(length, gaps, 15, 0)).expect("accepted");
+        let place = height / 2 * width + width / 2;
+        let pixel = |plate| Pixel { plate, place };
+        let mut book = Book::new();
+        for number in 0..MAX_ENTRIES as u16 {
+            book.enter(&from, setting, pixel(number)).expect("accepted");
+        }
+        let (alone, shown) =
+            time(|| again(TIMES, || diilvak::trace(&from, setting, place).expect("accepted")));
+        let (entered, (_, last)) =
+            time(|| again(TIMES, || book.enter(&from, setting, pixel(5)).expect("accepted")));
+        assert!(last == shown, "a trace that is entered differs");
+        let each = |seconds: f64| seconds * 1e6 / TIMES as f64;
+        println!(
+            "| {width} × {height}, noise and curves | {length} | {gaps} | {:.1} | {:.1} | {:.2} |",
+            each(alone),
+            each(entered),
+            entered / alone
+        );
+    }
+}
+
 /// The correction of a plate without faults, beside one that searches the readings, then the words, and
 /// then adds: nanoseconds a pixel.
 fn correction() {
@@ -229,6 +271,7 @@ fn main() {
     }
     ends();
     between();
+    entering();
     awkward();
     correction();
 }
