@@ -1,13 +1,14 @@
 -- General laws of natural numbers, for what `omega` does not find by itself: the cases of an order, of a maximum and of a small number, one number
--- more, and the equality of two numbers or two tests from both directions.
+-- more, the equality of two numbers or two tests from both directions, and products.
 use Prim.Native.Nat.{ℕ, zero, suc, _+_, _-_, _*_, _≤_, _<_, max}
-use mathlib.Core.Path.{_≡_, refl, sym, subst}
+use mathlib.Core.Path.{_≡_, refl, sym, _∙_, subst}
+use mathlib.Core.Bool.{Bool, true, false}
 use mathlib.Core.Logic.{_⊎_, inl, inr, ⊎-elim, by-cases}
 use native.Mathlib.Decide.{decLe}
-use native.Mathlib.Nat.{add-mul, mul-le-mul-right}
+use native.Mathlib.Nat.{add-mul, mul-le-mul-right, eq-of-mul-eq-mul-right, zero-mul}
 use native.Mathlib.Omega.{arith, max-cases}
-use lib.Dec.{ltb}
-use borrow.Author.Tests.{lt-ltb, le-ltb}
+use lib.Dec.{ltb, eqb}
+use borrow.Author.Tests.{lt-ltb, le-ltb, eq-eqb, ne-eqb, eqb-true, eqb-false}
 
 pub le-or-lt : (a b : ℕ) → (a ≤ b) ⊎ (b < a)
 le-or-lt a b = by-cases (decLe a b) inl (λ n. inr (omega arith))
@@ -36,6 +37,14 @@ ltb-same a b c d up down = ⊎-elim
     (λ h. rw (lt-ltb a b h) (sym (lt-ltb c d (up h))))
     (le-or-lt b a)
 
+-- two tests of equality likewise
+pub eqb-same : (a b c d : ℕ) → (a ≡ b → c ≡ d) → (c ≡ d → a ≡ b) → eqb a b ≡ eqb c d
+eqb-same a b c d forth home = go (eqb c d) refl
+  where
+    go : (r : Bool) → eqb c d ≡ r → eqb a b ≡ r
+    go true e = eq-eqb a b (home (eqb-true c d e))
+    go false e = ne-eqb a b (λ (h : a ≡ b). eqb-false c d e (forth h))
+
 -- a number below three or four is one of those
 pub below-three : (P : ℕ → Type 0) → P 0 → P 1 → P 2 → (n : ℕ) → n < 3 → P n
 below-three P a b c zero h = a
@@ -50,3 +59,7 @@ below-four P a b c d (suc n) h = below-three (λ (m : ℕ). P (suc m)) b c d n (
 -- k rows of w numbers after the first r rows end within h rows
 pub rows-fit : (r k h w : ℕ) → r + k ≤ h → r * w + k * w ≤ h * w
 rows-fit r k h w p = subst (λ (n : ℕ). n ≤ h * w) (add-mul r k w) (mul-le-mul-right w p)
+
+-- a product is zero with a factor that is not
+pub factor-zero : (n d : ℕ) → 0 < d → n * d ≡ 0 → n ≡ 0
+factor-zero n d p e = eq-of-mul-eq-mul-right d p n 0 (e ∙ sym (zero-mul d))

@@ -12,7 +12,8 @@ use Rattle.book.specs.Refusals.{entered}
 use Rattle.book.specs.declared.entry.Key.{Key}
 use Rattle.book.specs.declared.Book.{Book}
 use Rattle.entering.specs.Refusals.{bookAfter}
-use Rattle.diilvak.specs.Numbers.{lentAfter, freeAfter, levelAfter, directionAfter, shownAfter}
+use Rattle.plate.specs.Telling.{lentAfter, valueAfter}
+use Rattle.diilvak.specs.Numbers.{freeAfter, directionAfter, shownAfter}
 
 pub result-lent : (answer : Answer) (new old : List ℤ) → resultAfter answer new old ≡ lentAfter (answered answer) new old
 result-lent Done new old = refl
@@ -30,6 +31,6 @@ trace-lent (Untraced number place) shown direction path path′ work work′ h =
 
 -- a book in which a trace is entered, with the level and the direction that then stand in the lent numbers
 pub book-lent : (traced : Traced) (b : Book) (key : Key) (level : ℤ) (direction : ℕ) →
-    bookAfter traced b key ≡ lentAfter (tracedLevel traced) (entered b key (levelAfter (tracedLevel traced) level) (directionAfter traced direction)) b
+    bookAfter traced b key ≡ lentAfter (tracedLevel traced) (entered b key (valueAfter (tracedLevel traced) level) (directionAfter traced direction)) b
 book-lent (Path bit found) b key level direction = refl
 book-lent (Untraced number place) b key level direction = refl

@@ -1,4 +1,4 @@
--- Answers as numbers, for C and Rust: the result is 0 where a call is accepted and the refusal's number else; the other values go to lent numbers.
+-- What calls take and hand over as numbers, for C and Rust, besides what plate/specs/Telling.antt has.
 use Prim.Native.Nat.{ℕ, _+_, _*_}
 use mathlib.Core.Path.{_≡_}
 use mathlib.Core.Bool.{cond, _||_}
@@ -17,30 +17,10 @@ use Rattle.plate.specs.declared.walker.Moved.the-variants.{To, Leaves}
 abbrev pub settingOf : ℕ → ℕ → ℕ → ℕ → ℕ → Setting
 settingOf L k directions mode ends = record { length = L; gaps = k; directions = directions; mode = mode; ends = ends }
 
--- the result of a call
-abbrev pub numberOf : {A : Type 0} → Verdict A → ℕ
-numberOf (accepted a) = 0
-numberOf (refused number place) = number
-
--- the place of a refusal; 0 where there is none
-abbrev pub placeOf : {A : Type 0} → Verdict A → ℕ
-placeOf (accepted a) = 0
-placeOf (refused number place) = place
-
--- a lent buffer: the new contents, or what it held before a refusal
-abbrev pub lentAfter : {A X : Type 0} → Verdict A → X → X → X
-lentAfter (accepted a) new old = new
-lentAfter (refused number place) new old = old
-
 -- a lent work buffer: free after an accepted call, and as it was after a refusal
 abbrev pub freeAfter : {A X : Type 0} → Verdict A → X → X → Type 0
 freeAfter (accepted a) old new = Unit
 freeAfter (refused number place) old new = new ≡ old
-
--- a lent level: the trace's, or what it was before a refusal
-abbrev pub levelAfter : Verdict ℤ → ℤ → ℤ
-levelAfter (accepted level) old = level
-levelAfter (refused number place) old = old
 
 -- a lent direction: the bit of the one that the trace shows, or what it was before a refusal
 abbrev pub directionAfter : Traced → ℕ → ℕ

@@ -7,7 +7,8 @@ ghost use Rattle.theory.specs.Trace.{Shows};
 ghost use Rattle.book.specs.Entries.{bookOf};
 ghost use Rattle.book.specs.Refusals.{entered, withdrawVerdict, handedBack};
 ghost use Rattle.entering.specs.Refusals.{keyOf, enterTraceVerdict};
-ghost use Rattle.diilvak.specs.Numbers.{settingOf, numberOf, lentAfter, levelAfter, shownAfter};
+ghost use Rattle.plate.specs.Telling.{numberOf, lentAfter, valueAfter};
+ghost use Rattle.diilvak.specs.Numbers.{settingOf, shownAfter};
 use crate::telling::tell_trace;
 use book::Book;
 use book::Kept;
@@ -49,7 +50,7 @@ pub extern "C" fn diilvak_enter_trace(
     level: &mut i16,
 ) -> Kept
     ensures { λ r. ⌜ r .number ≡ numberOf (enterTraceVerdict width height (settingOf length gaps directions mode ends) (now (plate .entry)) pixel book (size (now (path .entry))) (size (now (work .entry)))) ⌝ }
-    ensures { λ r. ⌜ now (level .exit) ≡ levelAfter (enterTraceVerdict width height (settingOf length gaps directions mode ends) (now (plate .entry)) pixel book (size (now (path .entry))) (size (now (work .entry)))) (now (level .entry)) ⌝ }
+    ensures { λ r. ⌜ now (level .exit) ≡ valueAfter (enterTraceVerdict width height (settingOf length gaps directions mode ends) (now (plate .entry)) pixel book (size (now (path .entry))) (size (now (work .entry)))) (now (level .entry)) ⌝ }
     ensures { λ r. ⌜ shownAfter (enterTraceVerdict width height (settingOf length gaps directions mode ends) (now (plate .entry)) pixel book (size (now (path .entry))) (size (now (work .entry)))) (Shows (settingOf length gaps directions mode ends) width height (now (plate .entry)) (pixel .place)) (now (direction .entry)) (now (direction .exit)) (now (path .entry)) (now (path .exit)) (now (work .entry)) (now (work .exit)) ⌝ }
     ensures { λ r. ⌜ r .book ≡ lentAfter (enterTraceVerdict width height (settingOf length gaps directions mode ends) (now (plate .entry)) pixel book (size (now (path .entry))) (size (now (work .entry)))) (entered book (keyOf (settingOf length gaps directions mode ends) pixel) (now (level .exit)) (now (direction .exit))) book ⌝ }
 {

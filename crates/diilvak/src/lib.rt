@@ -9,10 +9,11 @@ ghost use Rattle.plate.specs.Levels.{correctedPlate};
 ghost use Rattle.plate.specs.Opening.{filtered};
 ghost use Rattle.plate.specs.Refusals.{ifAccepted, settingVerdict, correctionVerdict, filterVerdict, traceVerdict};
 ghost use Rattle.plate.specs.Answers.{answered, walked};
+ghost use Rattle.plate.specs.Telling.{numberOf, placeOf, lentAfter, valueAfter};
 ghost use Rattle.theory.specs.Trace.{Shows};
 ghost use Rattle.theory.specs.Between.{Bounds};
 ghost use Rattle.between.specs.Refusals.{betweenVerdict};
-ghost use Rattle.diilvak.specs.Numbers.{settingOf, numberOf, placeOf, lentAfter, freeAfter, levelAfter, shownAfter, hasMoved, placeAfter, workLength};
+ghost use Rattle.diilvak.specs.Numbers.{settingOf, freeAfter, shownAfter, hasMoved, placeAfter, workLength};
 ghost use Rattle.diilvak.specs.Version.{version};
 
 mod findings;
@@ -204,7 +205,7 @@ pub extern "C" fn diilvak_trace(
     level: &mut i16,
 ) -> usize
     ensures { λ r. ⌜ r ≡ numberOf (traceVerdict width height (settingOf length gaps directions mode ends) (now (plate .entry)) at (size (now (path .entry))) (size (now (work .entry)))) ⌝ }
-    ensures { λ r. ⌜ now (level .exit) ≡ levelAfter (traceVerdict width height (settingOf length gaps directions mode ends) (now (plate .entry)) at (size (now (path .entry))) (size (now (work .entry)))) (now (level .entry)) ⌝ }
+    ensures { λ r. ⌜ now (level .exit) ≡ valueAfter (traceVerdict width height (settingOf length gaps directions mode ends) (now (plate .entry)) at (size (now (path .entry))) (size (now (work .entry)))) (now (level .entry)) ⌝ }
     ensures { λ r. ⌜ shownAfter (traceVerdict width height (settingOf length gaps directions mode ends) (now (plate .entry)) at (size (now (path .entry))) (size (now (work .entry)))) (Shows (settingOf length gaps directions mode ends) width height (now (plate .entry)) at) (now (direction .entry)) (now (direction .exit)) (now (path .entry)) (now (path .exit)) (now (work .entry)) (now (work .exit)) ⌝ }
 {
     let setting = Setting {

@@ -1,7 +1,8 @@
 // What the proved functions answer, told as numbers.
 ghost use mathlib.Core.Path.{_≡_};
 ghost use Rattle.plate.specs.Answers.{answered, tracedLevel};
-ghost use Rattle.diilvak.specs.Numbers.{numberOf, placeOf, levelAfter, directionAfter};
+ghost use Rattle.plate.specs.Telling.{numberOf, placeOf, valueAfter};
+ghost use Rattle.diilvak.specs.Numbers.{directionAfter};
 use plate::Answer;
 use plate::Traced;
 
@@ -26,7 +27,7 @@ pub(crate) fn tell(answer: Answer, place: &mut usize) -> usize
 pub(crate) fn tell_trace(traced: Traced, direction: &mut usize, level: &mut i16) -> usize
     ensures { λ r. ⌜ r ≡ numberOf (tracedLevel traced) ⌝ }
     ensures { λ r. ⌜ now (direction .exit) ≡ directionAfter traced (now (direction .entry)) ⌝ }
-    ensures { λ r. ⌜ now (level .exit) ≡ levelAfter (tracedLevel traced) (now (level .entry)) ⌝ }
+    ensures { λ r. ⌜ now (level .exit) ≡ valueAfter (tracedLevel traced) (now (level .entry)) ⌝ }
 {
     match traced {
         Traced::Path {

@@ -10,3 +10,4 @@ pub mod Sizes
 pub mod Answers
 pub mod Calls
 pub mod Within
+pub mod Telling

@@ -59,6 +59,10 @@ refusalNoEntry = 17
 abbrev pub refusalEnds : ℕ
 refusalEnds = 18
 
+-- document 02, N6: a number that the lamp meter may not report
+abbrev pub refusalFigure : ℕ
+refusalFigure = 19
+
 -- document 02, N7: a pixel whose lowest level is above its highest
 abbrev pub refusalBounds : ℕ
 refusalBounds = 20

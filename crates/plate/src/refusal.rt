@@ -37,4 +37,6 @@ pub const NO_ENTRY: usize = 17;
 
 pub const ENDS: usize = 18;
 
+pub const FIGURE: usize = 19;
+
 pub const BOUNDS: usize = 20;

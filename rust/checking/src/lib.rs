@@ -9,6 +9,7 @@
 //! * [`fast`]: the queue or the recursion, by where paths may end.
 //! * [`table`]: the refusal table; [`text`]: the survey program's text.
 //! * [`book`]: the findings book; [`histories`]: its worked histories, and what stands after any.
+//! * [`meter`]: the lamp meter's correction; [`figures`]: its worked figures, and others.
 //! * [`plate`]: plates, settings and directions as bare numbers; [`random`] and [`cases`]: plates of
 //!   fixed seeds, and the worked ones; [`lent`]: buffers that remember what they held; [`drawing`]: the
 //!   wall of the pictures, and how they are written.
@@ -18,6 +19,8 @@
 //!
 //! * `engine`: the library's calls on these types.
 //!
+//! The feature `meter`, on likewise, adds the add-on to the tests.
+//!
 //! "Section" and "demand" are those of document 01.
 pub mod book;
 pub mod cases;
@@ -25,10 +28,12 @@ pub mod drawing;
 #[cfg(feature = "engine")]
 pub mod engine;
 pub mod fast;
+pub mod figures;
 pub mod histories;
 pub mod lent;
 pub mod levels;
 pub mod listing;
+pub mod meter;
 pub mod plate;
 pub mod queue;
 pub mod random;

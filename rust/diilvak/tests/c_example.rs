@@ -2,20 +2,11 @@
 //! by themselves, as C and as C++.
 mod c;
 
-use c::{root, run};
-use std::path::PathBuf;
-use std::process::Command;
+use c::compiles_by_itself;
 
 /// What an example prints.
 fn printed(name: &str) -> String {
-    let program = PathBuf::from(env!("CARGO_TARGET_TMPDIR")).join(name);
-    run(Command::new("cc")
-        .args(["-std=c11", "-Wall", "-Wextra", "-pedantic", "-Iinclude"])
-        .arg(format!("examples/{name}.c"))
-        .args(["-L", env!("DIILVAK_LIB_DIR"), "-ldiilvak", "-o"])
-        .arg(&program)
-        .current_dir(root()));
-    run(&mut Command::new(&program))
+    c::printed(name, env!("DIILVAK_LIB_DIR"), "diilvak")
 }
 
 #[test]
@@ -48,12 +39,6 @@ fn book_prints_the_example() {
 
 #[test]
 fn headers_compile_by_themselves() {
-    for header in ["include/diilvak.h", "include/diilvak_book.h"] {
-        for language in ["c", "c++"] {
-            run(Command::new("cc")
-                .args(["-Wall", "-Wextra", "-pedantic", "-fsyntax-only", "-x", language])
-                .args(["-include", header, "/dev/null"])
-                .current_dir(root()));
-        }
-    }
+    compiles_by_itself("include/diilvak.h");
+    compiles_by_itself("include/diilvak_book.h");
 }

@@ -5,79 +5,15 @@
 //! `Ends::OnCrack` is DIILVAK_ENDS_ON_CRACK.
 mod c;
 
-use c::{all_true_in_c, read};
+use c::all_true_in_c;
+use c::names::{self, add, case, constants, first_column, taken, Numbers};
 use diilvak::{raw, Direction, Ends, Mode, Refusal};
-use std::collections::BTreeMap;
 
-type Numbers = BTreeMap<String, i64>;
+const HEADERS: [&str; 2] = ["include/diilvak.h", "include/diilvak_book.h"];
 
-/// Adds a number to those of `file`; a name that comes twice is an error.
-fn add(numbers: &mut Numbers, file: &str, name: &str, value: &str) {
-    let digits = value.trim_matches(['(', ')']).replace('_', "");
-    let number = digits.parse().unwrap_or_else(|_| panic!("{file}: {name} is {value}"));
-    assert_eq!(numbers.insert(name.to_string(), number), None, "{file}: {name} comes twice");
-}
-
-/// The constants of source files, Rattle's or Rust's: `const NAME: TYPE = VALUE;`.
-fn constants(files: &[&str]) -> Numbers {
-    let mut numbers = Numbers::new();
-    for file in files {
-        for line in read(file).lines() {
-            let line = line.trim();
-            let open = ["pub ", "pub(crate) "].iter().find_map(|word| line.strip_prefix(word));
-            let rest = open.unwrap_or(line).strip_prefix("const ");
-            let parts = rest.and_then(|rest| rest.split_once(": "));
-            if let Some((name, rest)) = parts {
-                let (_, value) = rest.split_once(" = ").expect("a constant has a value");
-                let value = value.strip_suffix(';').expect("on one line");
-                add(&mut numbers, file, name, value);
-            }
-        }
-    }
-    assert!(!numbers.is_empty(), "{files:?}");
-    numbers
-}
-
-/// The numbers of both headers' macros, by their names after `DIILVAK_`.
+/// The numbers of both headers' macros.
 fn macros() -> Numbers {
-    let mut numbers = Numbers::new();
-    for header in ["include/diilvak.h", "include/diilvak_book.h"] {
-        for line in read(header).lines() {
-            let mut words = line.strip_prefix("#define DIILVAK_").unwrap_or("").split(' ');
-            match (words.next(), words.next()) {
-                (Some("H" | "BOOK_H" | ""), None) => {}
-                (Some(name), Some(value)) => add(&mut numbers, header, name, value),
-                (name, value) => panic!("a macro {name:?} with {value:?}"),
-            }
-        }
-    }
-    numbers
-}
-
-/// The headers' macros of some kind, each taken out of the rest.
-fn taken(rest: &mut Numbers, kind: impl Fn(&str) -> bool) -> Numbers {
-    let all = std::mem::take(rest);
-    let (found, others) = all.into_iter().partition(|(name, _)| kind(name));
-    *rest = others;
-    found
-}
-
-/// `NO_PATH` of `NoPath`.
-fn upper(name: &str) -> String {
-    let mut upper = String::new();
-    for letter in name.chars() {
-        if letter.is_uppercase() && !upper.is_empty() {
-            upper.push('_');
-        }
-        upper.push(letter.to_ascii_uppercase());
-    }
-    upper
-}
-
-/// The name of an enum's case, without the values in it.
-fn case(shown: impl std::fmt::Debug) -> String {
-    let shown = format!("{shown:?}");
-    upper(shown.split([' ', '(']).next().unwrap())
+    names::macros(&HEADERS)
 }
 
 fn refusals_of_the_package() -> Numbers {
@@ -92,11 +28,12 @@ fn refusals_of_the_package() -> Numbers {
     numbers
 }
 
-/// The refusals of the proved code by the headers' names. Those of texts are the program's alone.
+/// The refusals of the proved code by the headers' names. Those of texts are the program's alone, and that of
+/// the lamp meter's figures is the add-on's, whose own test looks for it.
 fn refusals_of_the_code() -> Numbers {
     let mut numbers = constants(&["crates/plate/src/refusal.rt"]);
-    for of_texts in ["LINE", "TEXT"] {
-        assert!(numbers.remove(of_texts).is_some(), "{of_texts}");
+    for of_others in ["LINE", "TEXT", "FIGURE"] {
+        assert!(numbers.remove(of_others).is_some(), "{of_others}");
     }
     let named = |name: String| match name.as_str() {
         "NO_PATH" | "NO_ENTRY" => name,
@@ -105,15 +42,6 @@ fn refusals_of_the_code() -> Numbers {
         _ => format!("BAD_{name}"),
     };
     numbers.into_iter().map(|(name, number)| (named(name), number)).collect()
-}
-
-/// The numbers in the first column of the header's table of refusals.
-fn refusals_of_the_table() -> Vec<i64> {
-    let header = read("include/diilvak.h");
-    let (_, after) = header.split_once(" * REFUSALS\n").expect("a paragraph on refusals");
-    let (paragraph, _) = after.split_once(" * WHAT THE CALLER OWES\n").expect("and one after it");
-    let rows = paragraph.lines().filter_map(|line| line.strip_prefix(" *     "));
-    rows.filter_map(|row| row.split(' ').next()?.parse().ok()).collect()
 }
 
 #[test]
@@ -145,7 +73,8 @@ fn refusals() {
     // In the order of judgement: by rising number, but 18 belongs to the setting, after 5.
     let mut in_order: Vec<i64> = code.into_values().collect();
     in_order.sort_by_key(|&number| if number == 18 { (5, number) } else { (number, 0) });
-    assert_eq!(refusals_of_the_table(), in_order);
+    let table = first_column("include/diilvak.h", "REFUSALS", "WHAT THE CALLER OWES");
+    assert_eq!(table, in_order);
 }
 
 #[test]
@@ -186,5 +115,6 @@ fn version() {
 #[test]
 fn compiled_headers() {
     let numbers = macros().into_iter().chain(refusals_of_the_code());
-    all_true_in_c("numbers.c", numbers.map(|(name, number)| format!("DIILVAK_{name} == {number}")));
+    let claims = numbers.map(|(name, number)| format!("DIILVAK_{name} == {number}"));
+    all_true_in_c("numbers.c", &HEADERS, claims);
 }

@@ -2,7 +2,7 @@
 -- of them is handed on.
 use mathlib.Core.Path.{ap, _∙_}
 use borrow.Author.Needs.{needs}
-use Rattle.diilvak.specs.Numbers.{numberOf, placeOf}
+use Rattle.plate.specs.Telling.{numberOf, placeOf}
 use Rattle.diilvak.proofs.Told.{result-lent, work-free}
 use Rattle.diilvak.proofs.diilvak_filter_between.Statement.{statement}
 use Rattle.diilvak.proofs.diilvak_filter_between.Tie as tie

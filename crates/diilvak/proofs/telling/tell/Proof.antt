@@ -2,7 +2,7 @@
 use mathlib.Core.Path.{sym, ap}
 use borrow.Author.Needs.{needs}
 use Rattle.plate.specs.Answers.{answered}
-use Rattle.diilvak.specs.Numbers.{numberOf, placeOf}
+use Rattle.plate.specs.Telling.{numberOf, placeOf}
 use Rattle.diilvak.proofs.telling.tell.Statement.{statement}
 use Rattle.diilvak.proofs.telling.tell.Tie as tie
 

@@ -1,0 +1,9 @@
+pub mod Values
+pub mod FourTimes
+pub mod Cutting
+pub mod Quarters
+pub mod Exact
+pub mod Halves
+pub mod Deciding
+pub mod Correcting
+pub mod WorkedFigures
