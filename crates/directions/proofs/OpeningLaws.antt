@@ -144,7 +144,7 @@ module _ (r : Frame) (W H index : ℕ) (framed : Framed r W H index) (of : Frame
         let roomy = room-side room h in
         let other = filter-formed r L framed of some few fit by-rows planes slack true (omega arith) (omega arith) in
         sweeps-if (side false) steps-back room 65536 (filter-formed r L framed of some few fit by-rows planes slack false (omega arith) (omega arith))
-        (roomy .halves) (rw (filter-other r L framed of some few fit by-rows planes slack) other)
+        (omega (arith, roomy .halves)) (rw (filter-other r L framed of some few fit by-rows planes slack) other)
         (omega (arith, filter-count r L framed of some few fit by-rows planes slack, filter-states-few r L framed of some few fit))
         (room-asked (side false) room roomy) (roomy .keys)
 

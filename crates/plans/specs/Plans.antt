@@ -74,6 +74,10 @@ blockOf p = p .planes * pitchOf p
 unfoldable pub halfOf : Plan → ℕ
 halfOf p = cond (p .linked) (blockOf p + blockOf p) (blockOf p)
 
+-- the same where `more` states are made at once with the first
+abbrev pub halfWith : Plan → ℕ → ℕ
+halfWith p more = halfOf p + more * blockOf p
+
 abbrev pub rowSize : Plan → ℕ
 rowSize p = p .planes * p .across
 

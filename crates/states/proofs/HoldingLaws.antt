@@ -1,5 +1,5 @@
--- The held rows while row m is made. A row is known by its numbers at its own pixels. Row m of the last state comes beside the place of the new row,
--- and leaves the half of the number before as it is; so each of the three steps reads the number that it leads on, and the row made of them is row m.
+-- The held rows while row m of one state is made. A row is known by its numbers at its own pixels. Row m of the last state is held beside the place of
+-- the new row; so each of the three steps reads the number that it leads on, and the row made of them is row m.
 use Prim.Native.Nat.{ℕ, zero, suc, _+_, _-_, _*_, _≤_, _<_}
 use mathlib.Core.Path.{_≡_, refl, sym, ap, _∙_, subst}
 use mathlib.Core.Bool.{Bool, true, false}
@@ -14,7 +14,7 @@ use Rattle.states.specs.Runs.{Between, Apart}
 use Rattle.plans.specs.Plans.{Sound, Readable, rowsIn, rowLo, rowHi, rowAt, rowSize, seenLo, seenHi, pitchOf, blockOf, halfOf, starts, startsAt}
 use Rattle.states.specs.Rows.{gate, inRow, RowHeld, TapsOf, layerAhead, blended}
 use Rattle.states.specs.States.{rowBefore, lastBefore, seen, ahead, Grown}
-use Rattle.states.specs.Holding.{Slotted, tapOf, LastFrom, LastHeld, Ready, LastRow, NextRow}
+use Rattle.states.specs.Holding.{Slotted, tapOf, LastFrom, LastHeld, Ready, LastRow, MadeRow}
 use Rattle.plans.specs.declared.plan.Plan.{Plan}
 use Rattle.states.specs.declared.state.Slots.{Slots}
 use Rattle.theory.specs.BestWalks.{alone}
@@ -43,9 +43,19 @@ held-by held slot planes pitch lo hi lo₁ hi₁ f g h el eh same =
 pub apart-run : (f : ℕ → ℕ) (old new : List ℕ) (lo hi : ℕ) → Between f old new lo hi → Apart old new lo hi
 apart-run f old new lo hi b = record { under = b .under; over = b .over; len = b .len }
 
+pub apart-none : (old : List ℕ) (lo hi : ℕ) → Apart old old lo hi
+apart-none old lo hi = record { under = λ k h. refl; over = λ k h. refl; len = refl }
+
+pub apart-of : (old new : List ℕ) (lo n n₁ : ℕ) → n₁ ≡ n → Apart old new lo (lo + n) → Apart old new lo (lo + n₁)
+apart-of old new lo n n₁ e a = subst (λ (q : ℕ). Apart old new lo (lo + q)) (sym e) a
+
 -- ---- row m of the last state
 
 module _ (p : Plan) (e m : ℕ) (work : List ℕ) (from : ℕ) (held : List ℕ) (slot : ℕ) where
+  -- none is asked for
+  pub last-unlinked : p .linked ≡ false → LastRow p e m work from held slot
+  last-unlinked u = record { is = λ last linked from-m. absurd (let z : _≡_ {A = ℕ} 0 1 = cc in omega arith) }
+
   -- there is none
   pub last-none : (old : List ℕ) (past : ℕ) → Between (λ (k : ℕ). 0) old held slot past → past ≡ slot + blockOf p → e ≡ 0 →
       LastRow p e m work from held slot
@@ -91,55 +101,32 @@ last-held-over p e m old new slot lo hi last a l h =
       some = λ d ed j X hj l₁ k. a .over (slot + (j * pitchOf p + X)) (omega arith) ∙ h .some d ed j X hj l₁ k;
     }
 
--- row m of the last state is held beside the place of row m of this one, where states are linked
-pub record Beside (p : Plan) (e m : ℕ) (work : List ℕ) (from : ℕ) (s : Slots) (old mid : List ℕ) : Type 0 where
-  pub last : p .linked ≡ true → LastRow p e m work from mid (s .now + blockOf p)
-  pub apart : Apart old mid (s .now + blockOf p) (s .now + halfOf p)
-
-module _ (p : Plan) (e m : ℕ) (work : List ℕ) (from : ℕ) (s : Slots) (old : List ℕ) where
-  pub beside-none : (now : List ℕ) → p .linked ≡ false → now ≡ old → Beside p e m work from s old now
-  beside-none now el en =
-      subst (λ (l : List ℕ). Beside p e m work from s old l) (sym en)
-      record {
-        last = λ h. absurd (let z : _≡_ {A = ℕ} 0 1 = cc in omega arith);
-        apart = record { under = λ k h. refl; over = λ k h. refl; len = refl };
-      }
-
-  pub beside-some : (now mid : List ℕ) → p .linked ≡ true → LastRow p e m work from mid (s .now + blockOf p) →
-      Apart old mid (s .now + blockOf p) (s .now + blockOf p + blockOf p) → now ≡ mid → Beside p e m work from s old now
-  beside-some now mid el r a en =
-      let half = half-linked p el in
-      subst (λ (l : List ℕ). Beside p e m work from s old l) (sym en)
-      record {
-        last = λ h. r;
-        apart = record { under = a .under; over = λ k h. a .over k (omega arith); len = a .len };
-      }
-
+module _ (p : Plan) (e m : ℕ) (work : List ℕ) (s : Slots) (old : List ℕ) where
   -- row m is held at the place of this number
-  pub next-of : (mid new : List ℕ) → Beside p e m work from s old mid → Apart mid new (s .now) (s .now + blockOf p) →
-      ((last this : ℕ → ℕ → ℕ → ℕ) → LastFrom p e m work from last → Grown p e (λ q. getD work q 0) last this → Ready p e m old (s .was) last this →
-      RowHeld new (s .now) (p .planes) (pitchOf p) (rowLo p e m) (rowHi p e m) (this m)) → NextRow p e m work from s old new
+  pub made-of : (new : List ℕ) → Apart old new (s .now) (s .now + blockOf p) →
+      ((last this : ℕ → ℕ → ℕ → ℕ) → (p .linked ≡ true → LastHeld p e (suc m) old (s .now + blockOf p) last) →
+      Grown p e (λ q. getD work q 0) last this → Ready p e m old (s .was) last this →
+      RowHeld new (s .now) (p .planes) (pitchOf p) (rowLo p e m) (rowHi p e m) (this m)) → MadeRow p e m work s old new
   unfolding rowBefore seenLo seenHi
-  next-of mid new b a row =
+  made-of new a row =
       record {
-        is = λ last this stands grown ready.
+        is = λ last this beside grown ready.
             record {
-              own = λ j X hj l k. row last this stands grown ready .is j X hj l k;
+              own = λ j X hj l k. row last this beside grown ready .is j X hj l k;
               other = λ linked.
-                  last-held-over p e (suc m) mid new (s .now + blockOf p) (s .now) (s .now + blockOf p) last a (omega arith)
-                  (b .last linked .is last linked stands);
+                  last-held-over p e (suc m) old new (s .now + blockOf p) (s .now) (s .now + blockOf p) last a (omega arith) (beside linked);
             };
-        len = a .len ∙ b .apart .len;
+        apart = a;
       }
 
   -- a row of walks of no steps
-  pub next-started : (mid new : List ℕ) → Beside p e m work from s old mid → Apart mid new (s .now) (s .now + blockOf p) → m < rowsIn p e →
+  pub made-started : (new : List ℕ) → Apart old new (s .now) (s .now + blockOf p) → m < rowsIn p e →
       starts p e m ≡ true → (lo hi at : ℕ) → lo ≡ rowLo p e m → hi ≡ rowHi p e m → at ≡ rowAt p e m →
       RowHeld new (s .now) (p .planes) (pitchOf p) lo hi (λ (j x : ℕ). gate (startsAt p m x) (alone (p .slack) (getD work (at + x) 0) j)) →
-      NextRow p e m work from s old new
-  next-started mid new b a hm st lo hi at el eh ea h =
-      next-of mid new b a
-      (λ last this stands grown ready.
+      MadeRow p e m work s old new
+  made-started new a hm st lo hi at el eh ea h =
+      made-of new a
+      (λ last this beside grown ready.
       held-by new (s .now) (p .planes) (pitchOf p) lo hi (rowLo p e m) (rowHi p e m) _ (this m) h el eh
       (λ j x hj l k. ap (λ (q : ℕ). gate (startsAt p m x) (alone (p .slack) (getD work (q + x) 0) j)) ea ∙ sym (grown .first m j x hm hj l k st)))
 
@@ -175,8 +162,7 @@ slotted-same p s size size₁ h e = subst (λ (n : ℕ). Slotted p s n) (sym e) 
 pub slots-within : (p : Plan) (s : Slots) (size : ℕ) → Sound p → Slotted p s size → (s .was < 40000) × (s .now < 40000) × (s .now + halfOf p ≤ size)
 slots-within p s size sound h =
     let some = rows-fit 0 1 (p .planes) (pitchOf p) (omega (arith, sound .some-planes)) in
-    let room = half-room p in
-    ⊎-elim (λ w. omega (arith, h .fits, h .small)) (λ w. omega (arith, h .fits, h .small)) (h .either)
+    omega (arith, half-room p, h .was-fits, h .now-fits, h .small)
 
 -- a step that reads the last state has one to read
 linked-reach : (p : Plan) (e m y x : ℕ) → Readable p e m (suc y) x → p .linked ≡ true
@@ -199,7 +185,7 @@ module _ (p : Plan) (e m : ℕ) (s : Slots) (size : ℕ) (slotted : Slotted p s 
       ((t + x + blockOf p ≤ s .now + 2) ⊎ (s .now + blockOf p ≤ t + x)) × (t + x + blockOf p ≤ size + 2)
   was-clear t o x et room near = (
     ⊎-elim (λ w. inl (omega arith)) (λ w. inr (omega (arith, half-room p))) (slotted .either),
-    ⊎-elim (λ w. omega (arith, slotted .fits)) (λ w. omega (arith, slotted .fits)) (slotted .either),
+    omega (arith, slotted .was-fits),
   )
 
   -- and so does any step
@@ -212,43 +198,32 @@ module _ (p : Plan) (e m : ℕ) (s : Slots) (size : ℕ) (slotted : Slotted p s 
       was-clear (s .was + blockOf p) (blockOf p) x refl (omega arith) (r .near)
   tap-clear (suc (suc y)) x r =
       let half = half-linked p (linked-reach p e m (suc y) x r) in
-      (inr (omega arith), ⊎-elim (λ w. omega (arith, r .near, slotted .fits)) (λ w. omega (arith, r .near, slotted .fits)) (slotted .either))
+      (inr (omega arith), omega (arith, r .near, slotted .now-fits))
 
-  module _ (work : List ℕ) (from : ℕ) (old mid : List ℕ) (b : Beside p e m work from s old mid) (last this : ℕ → ℕ → ℕ → ℕ)
-      (stands : LastFrom p e m work from last) (ready : Ready p e m old (s .was) last this) (c : ℕ) (lower : rowLo p e m ≤ c) (upper : c < rowHi p e m)
-      (wide : rowHi p e m ≤ p .across) where
-    -- the half of the number before is as it was
-    kept : (q : ℕ) → s .was ≤ q → q < s .was + halfOf p → getD mid q 0 ≡ getD old q 0
-    kept q l h = ⊎-elim (λ w. b .apart .under q (omega arith)) (λ w. b .apart .over q (omega arith)) (slotted .either)
-
+  module _ (held : List ℕ) (last this : ℕ → ℕ → ℕ → ℕ) (beside : p .linked ≡ true → LastHeld p e (suc m) held (s .now + blockOf p) last)
+      (ready : Ready p e m held (s .was) last this) (c : ℕ) (lower : rowLo p e m ≤ c) (upper : c < rowHi p e m) (wide : rowHi p e m ≤ p .across) where
     -- a step reads what it leads on
     tap-reads : (y x j : ℕ) → Readable p e m y x → j < p .planes →
-        getD mid (tapOf p s y + x + j * pitchOf p + c) 0 ≡ seen p e last this y m j (c + x)
+        getD held (tapOf p s y + x + j * pitchOf p + c) 0 ≡ seen p e last this y m j (c + x)
     unfolding tapOf seen lastBefore
     tap-reads zero x j r hj =
-        let in-it = in-block j (p .planes) (pitchOf p) (c + x) hj (omega (arith, r .near)) in
         let reads = r .own refl c lower upper in
-        ap (λ (q : ℕ). getD mid q 0) (omega arith)
-        ∙ kept (s .was + (j * pitchOf p + (c + x))) (omega arith) (omega (arith, half-room p))
-        ∙ ready .own j (c + x) hj (reads .0) (reads .1)
+        ap (λ (q : ℕ). getD held q 0) (omega arith) ∙ ready .own j (c + x) hj (reads .0) (reads .1)
     tap-reads (suc zero) x j r hj =
         let linked = linked-reach p e m 0 x r in
-        let half = half-linked p linked in
-        let in-it = in-block j (p .planes) (pitchOf p) (c + x) hj (omega (arith, r .near)) in
-        ap (λ (q : ℕ). getD mid q 0) (omega arith)
-        ∙ kept (s .was + blockOf p + (j * pitchOf p + (c + x))) (omega arith) (omega arith)
-        ∙ last-reads p e m old (s .was + blockOf p) last j (c + x) (ready .other linked) hj (omega (arith, r .near))
+        ap (λ (q : ℕ). getD held q 0) (omega arith)
+        ∙ last-reads p e m held (s .was + blockOf p) last j (c + x) (ready .other linked) hj (omega (arith, r .near))
         (λ d ed. r .before refl d ed c lower upper)
     tap-reads (suc (suc zero)) x j r hj =
         let linked = linked-reach p e m 1 x r in
-        ap (λ (q : ℕ). getD mid q 0) (omega arith)
-        ∙ last-reads p e (suc m) mid (s .now + blockOf p) last j (c + x) (b .last linked .is last linked stands) hj (omega (arith, r .near))
+        ap (λ (q : ℕ). getD held q 0) (omega arith)
+        ∙ last-reads p e (suc m) held (s .now + blockOf p) last j (c + x) (beside linked) hj (omega (arith, r .near))
         (λ d ed. r .beside refl d ed c lower upper)
     tap-reads (suc (suc (suc y))) x j r hj = absurd (omega (arith, r .few))
 
     -- so the greatest of three held numbers is the one that the three steps lead on
     pub layer-reads : (t0 t1 t2 : ℕ) → TapsAt p s t0 t1 t2 → Sound p → e < 65536 → m < rowsIn p e → (j : ℕ) → j ≤ p .planes →
-        layerAhead mid (pitchOf p) t0 t1 t2 j c ≡ ahead p e last this j m c
+        layerAhead held (pitchOf p) t0 t1 t2 j c ≡ ahead p e last this j m c
     unfolding layerAhead ahead
     layer-reads t0 t1 t2 taps sound he hm zero hj = refl
     layer-reads t0 t1 t2 taps sound he hm (suc j) hj =
@@ -281,17 +256,17 @@ taps-fit p e m s size t0 t1 t2 sound slotted he hm taps =
     }
 
 -- a row made of held ones
-pub next-blended : (p : Plan) (e m : ℕ) (work : List ℕ) (from : ℕ) (s : Slots) (old mid new : List ℕ) → Sound p → Slotted p s (length old) →
-    Beside p e m work from s old mid → e < 65536 → m < rowsIn p e → starts p e m ≡ false → (lo hi at t0 t1 t2 slot : ℕ) →
+pub made-blended : (p : Plan) (e m : ℕ) (work : List ℕ) (s : Slots) (old new : List ℕ) → Sound p → Slotted p s (length old) →
+    e < 65536 → m < rowsIn p e → starts p e m ≡ false → (lo hi at t0 t1 t2 slot : ℕ) →
     lo ≡ rowLo p e m → hi ≡ rowHi p e m → at ≡ rowAt p e m → TapsAt p s t0 t1 t2 → slot ≡ s .now →
-    RowHeld new slot (p .planes) (pitchOf p) lo hi (blended mid (pitchOf p) t0 t1 t2 (λ (x : ℕ). getD work (at + x) 0)) →
-    Apart mid new slot (slot + blockOf p) → NextRow p e m work from s old new
-next-blended p e m work from s old mid new sound slotted b he hm st lo hi at t0 t1 t2 slot el eh ea taps es h a =
-    next-of p e m work from s old mid new b (subst (λ (q : ℕ). Apart mid new q (q + blockOf p)) es a)
-    (λ last this stands grown ready.
+    RowHeld new slot (p .planes) (pitchOf p) lo hi (blended old (pitchOf p) t0 t1 t2 (λ (x : ℕ). getD work (at + x) 0)) →
+    Apart old new slot (slot + blockOf p) → MadeRow p e m work s old new
+made-blended p e m work s old new sound slotted he hm st lo hi at t0 t1 t2 slot el eh ea taps es h a =
+    made-of p e m work s old new (subst (λ (q : ℕ). Apart old new q (q + blockOf p)) es a)
+    (λ last this beside grown ready.
     subst (λ (q : ℕ). RowHeld new q (p .planes) (pitchOf p) (rowLo p e m) (rowHi p e m) (this m)) es
     (held-by new slot (p .planes) (pitchOf p) lo hi (rowLo p e m) (rowHi p e m) _ (this m) h el eh
     (λ j x hj l k.
     let wide = sound .fits e m hm he .wide in
-    let reads = layer-reads p e m s (length old) slotted work from old mid b last this stands ready x l k wide t0 t1 t2 taps sound he hm in
+    let reads = layer-reads p e m s (length old) slotted old last this beside ready x l k wide t0 t1 t2 taps sound he hm in
     rw (reads (suc j) (omega arith), reads j (omega arith), ea) (sym (grown .later m j x hm hj l k st)))))

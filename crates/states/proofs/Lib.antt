@@ -5,5 +5,6 @@ pub mod JoinLaws
 pub mod BlendLaws
 pub mod SizeLaws
 pub mod HoldingLaws
+pub mod StretchLaws
 pub mod StateLaws
 pub mod DoorTests

@@ -1,19 +1,25 @@
 -- Which calls of this crate are taken: the plan can be followed, and what is lent has room. A call that is not taken changes nothing. These definitions
 -- serve contracts inside the engine only: no public contract cites them.
-use Prim.Native.Nat.{ℕ, _+_}
+use Prim.Native.Nat.{ℕ, _+_, _-_}
 use mathlib.Core.Bool.{Bool, _&&_, _||_}
 use lib.Dec.{leb, ltb, eqb}
-use Rattle.plans.specs.Plans.{rowsIn, halfOf, keysSize, stateSize}
+use Rattle.plans.specs.Plans.{rowsIn, halfWith, keysSize, stateSize}
 use Rattle.plans.specs.Forms.{wellFormed}
 use Rattle.plans.specs.declared.plan.Plan.{Plan}
+use Rattle.states.specs.declared.state.Stretch.{Stretch}
+use Rattle.states.specs.States.{furtherIn}
 
--- the lengths of `held` and `below` suffice for two rows of each state and for one plane
-unfoldable pub heldFits : Plan → ℕ → ℕ → Bool
-heldFits p held below = leb (halfOf p + halfOf p) held && leb held 40000 && leb (p .across + 7) below
+-- the lengths of `held` and `below` suffice for two rows of each state, where `more` are made at once with the first, and for one plane
+unfoldable pub heldFits : Plan → (more held below : ℕ) → Bool
+heldFits p more held below = leb (halfWith p more + halfWith p more) held && leb held 40000 && leb (p .across + 7) below
 
--- a plan that can be followed, with room for its held rows
-unfoldable pub canHold : Plan → ℕ → ℕ → Bool
-canHold p held below = wellFormed p && heldFits p held below
+-- a plan that can be followed, with room for the held rows of one state
+unfoldable pub canHold : Plan → (held below : ℕ) → Bool
+canHold p held below = wellFormed p && heldFits p 0 held below
+
+-- a plan that can be followed and states of it, with room for the held rows of all of them
+unfoldable pub canMake : Plan → Stretch → (held below : ℕ) → Bool
+canMake p s held below = wellFormed p && ltb (s .first) (s .past) && leb (s .past) 65536 && heldFits p (furtherIn s) held below
 
 -- a state stands behind the keys and within so many numbers of work
 unfoldable pub stateFits : Plan → ℕ → ℕ → Bool
@@ -23,18 +29,15 @@ stateFits p at work = leb (keysSize p) at && leb (at + stateSize p) work
 unfoldable pub sameOrApart : Plan → ℕ → ℕ → Bool
 sameOrApart p from to = eqb from to || leb (from + stateSize p) to || leb (to + stateSize p) from
 
--- state e from the one at `from` to `to`, with so many numbers of work, held and below
-unfoldable pub advances : Plan → ℕ → ℕ → ℕ → (work held below : ℕ) → Bool
-advances p e from to work held below =
-    wellFormed p && ltb e 65536 && heldFits p held below && stateFits p from work && stateFits p to work && sameOrApart p from to
+-- the states of a stretch from the one at `from`, the last to `to`, with so many numbers of work, held and below
+unfoldable pub advances : Plan → Stretch → (from to work held below : ℕ) → Bool
+advances p s from to work held below = canMake p s held below && stateFits p from work && stateFits p to work && sameOrApart p from to
 
--- state e, which has all rows, from the one at `from`, joined with the one at `ends`
-unfoldable pub joins : Plan → ℕ → ℕ → ℕ → (best work held below : ℕ) → Bool
-joins p e from ends best work held below =
-    wellFormed p
-    && ltb e 65536
-    && eqb (rowsIn p e) (p .rows)
-    && heldFits p held below
+-- the states of a stretch from the one at `from`; the last, which has all rows, is joined with the one at `ends`
+unfoldable pub joins : Plan → Stretch → (from ends best work held below : ℕ) → Bool
+joins p s from ends best work held below =
+    canMake p s held below
+    && eqb (rowsIn p (s .past - 1)) (p .rows)
     && stateFits p from work
     && stateFits p ends work
     && leb (keysSize p) best

@@ -1,19 +1,27 @@
 -- The held rows while a state is made. These definitions serve contracts inside this crate only.
-use Prim.Native.Nat.{ℕ, zero, suc, _+_, _*_, _≤_, _<_}
+use Prim.Native.Nat.{ℕ, zero, suc, _+_, _-_, _*_, _≤_, _<_}
 use mathlib.Core.Path.{_≡_}
 use mathlib.Core.Logic.{_⊎_}
 use mathlib.Core.Bool.{true}
 use mathlib.Core.List.{List}
 use lib.ListN.{length, getD}
-use Rattle.plans.specs.Plans.{rowsIn, rowLo, rowHi, rowSize, seenLo, seenHi, pitchOf, blockOf, halfOf}
-use Rattle.states.specs.States.{rowBefore, Grown}
+use Rattle.plans.specs.Plans.{rowsIn, rowLo, rowHi, rowSize, seenLo, seenHi, pitchOf, blockOf, halfOf, halfWith}
+use Rattle.states.specs.Runs.{Apart}
+use Rattle.states.specs.States.{rowBefore, Grown, Chain}
 use Rattle.plans.specs.declared.plan.Plan.{Plan}
 use Rattle.states.specs.declared.state.Slots.{Slots}
 
--- the two halves, in either order
+-- the rows of one state and of the last, those of the number before apart from those of this number
 pub record Slotted (p : Plan) (s : Slots) (size : ℕ) : Type 0 where
-  pub either : ((s .was ≡ 0) × (s .now ≡ halfOf p)) ⊎ ((s .was ≡ halfOf p) × (s .now ≡ 0))
-  pub fits : halfOf p + halfOf p ≤ size
+  pub either : (s .was + halfOf p ≤ s .now) ⊎ (s .now + halfOf p ≤ s .was)
+  pub was-fits : s .was + halfOf p ≤ size
+  pub now-fits : s .now + halfOf p ≤ size
+  pub small : size ≤ 40000
+
+-- the two halves with the rows of all states, in either order
+pub record Halves (p : Plan) (more : ℕ) (s : Slots) (size : ℕ) : Type 0 where
+  pub either : ((s .was ≡ 0) × (s .now ≡ halfWith p more)) ⊎ ((s .was ≡ halfWith p more) × (s .now ≡ 0))
+  pub fits : halfWith p more + halfWith p more ≤ size
   pub small : size ≤ 40000
 
 -- where a step's row begins: the row before of this state (0) and of the last (1), the same row of the last (2)
@@ -42,8 +50,18 @@ pub record Ready (p : Plan) (e m : ℕ) (held : List ℕ) (half : ℕ) (last thi
 pub record LastRow (p : Plan) (e m : ℕ) (work : List ℕ) (from : ℕ) (held : List ℕ) (slot : ℕ) : Type 0 where
   pub is : (last : ℕ → ℕ → ℕ → ℕ) → p .linked ≡ true → LastFrom p e m work from last → LastHeld p e (suc m) held slot last
 
--- row m of this state has been made
-pub record NextRow (p : Plan) (e m : ℕ) (work : List ℕ) (from : ℕ) (s : Slots) (old new : List ℕ) : Type 0 where
-  pub is : (last this : ℕ → ℕ → ℕ → ℕ) → LastFrom p e m work from last → Grown p e (λ q. getD work q 0) last this →
-      Ready p e m old (s .was) last this → Ready p e (suc m) new (s .now) last this
+-- row m of this state has been made, beside that of the last
+pub record MadeRow (p : Plan) (e m : ℕ) (work : List ℕ) (s : Slots) (old new : List ℕ) : Type 0 where
+  pub is : (last this : ℕ → ℕ → ℕ → ℕ) → (p .linked ≡ true → LastHeld p e (suc m) old (s .now + blockOf p) last) →
+      Grown p e (λ q. getD work q 0) last this → Ready p e m old (s .was) last this → Ready p e (suc m) new (s .now) last this
+  pub apart : Apart old new (s .now) (s .now + blockOf p)
+
+-- rows m − 1 of all states are held in a half, the last state's first
+pub record AllReady (p : Plan) (first past m : ℕ) (held : List ℕ) (half : ℕ) (f : ℕ → ℕ → ℕ → ℕ → ℕ) : Type 0 where
+  pub is : (d : ℕ) → first ≤ d → d < past → Ready p d m held (half + (past - 1 - d) * blockOf p) (f (d - 1)) (f d)
+
+-- row m of all states has been made
+pub record NextRows (p : Plan) (first past m : ℕ) (work : List ℕ) (from : ℕ) (s : Slots) (old new : List ℕ) : Type 0 where
+  pub is : (f : ℕ → ℕ → ℕ → ℕ → ℕ) → LastFrom p first m work from (f (first - 1)) → Chain p first past (λ q. getD work q 0) f →
+      AllReady p first past m old (s .was) f → AllReady p first past (suc m) new (s .now) f
   pub len : length new ≡ length old

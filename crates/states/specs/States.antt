@@ -9,6 +9,7 @@ use Rattle.states.specs.Runs.{Apart}
 use Rattle.plans.specs.Plans.{rowsIn, rowLo, rowHi, rowAt, rowSize, stateSize, starts, startsAt}
 use Rattle.states.specs.Rows.{gate, inRow}
 use Rattle.plans.specs.declared.plan.Plan.{Plan}
+use Rattle.states.specs.declared.state.Stretch.{Stretch}
 use Rattle.theory.specs.BestWalks.{alone}
 
 -- ---- where a step finds its numbers
@@ -44,6 +45,14 @@ pub record Grown (p : Plan) (e : ℕ) (keys : ℕ → ℕ) (last this : ℕ → 
   pub later : (m j x : ℕ) → m < rowsIn p e → j < p .planes → rowLo p e m ≤ x → x < rowHi p e m → starts p e m ≡ false →
       this m j x ≡ max (min (keys (rowAt p e m + x)) (ahead p e last this (suc j) m x)) (ahead p e last this j m x)
 
+-- the states from first below past, each made of the one before
+pub record Chain (p : Plan) (first past : ℕ) (keys : ℕ → ℕ) (f : ℕ → ℕ → ℕ → ℕ → ℕ) : Type 0 where
+  pub grown : (e : ℕ) → first ≤ e → e < past → Grown p e keys (f (e - 1)) (f e)
+
+-- how many states a stretch has besides its first
+abbrev pub furtherIn : Stretch → ℕ
+furtherIn s = s .past - 1 - s .first
+
 -- ---- the work buffer
 
 -- the state f stands at a place of the work buffer, its rows one after the other
@@ -55,9 +64,10 @@ pub record Holds (work : List ℕ) (at : ℕ) (p : Plan) (e : ℕ) (f : ℕ → 
 pub record LastHolds (work : List ℕ) (at : ℕ) (p : Plan) (e : ℕ) (f : ℕ → ℕ → ℕ → ℕ) : Type 0 where
   pub is : (d : ℕ) → p .linked ≡ true → e ≡ suc d → Holds work at p d f
 
--- state e is made at `to` of the one at `from`, whatever they are
-pub record Advanced (p : Plan) (e : ℕ) (old new : List ℕ) (from to : ℕ) : Type 0 where
-  pub is : (last this : ℕ → ℕ → ℕ → ℕ) → LastHolds old from p e last → Grown p e (λ q. getD old q 0) last this → Holds new to p e this
+-- the states from first below past are made of the one at `from`, whatever they are, and the last of them stands at `to`
+pub record Advanced (p : Plan) (first past : ℕ) (old new : List ℕ) (from to : ℕ) : Type 0 where
+  pub is : (f : ℕ → ℕ → ℕ → ℕ → ℕ) → LastHolds old from p first (f (first - 1)) → Chain p first past (λ q. getD old q 0) f →
+      Holds new to p (past - 1) (f (past - 1))
   pub apart : Apart old new to (to + stateSize p)
 
 -- best has risen to state e joined with another state, row by row: row m of the one and, counted from the last of `rows`, row m of the other
@@ -76,7 +86,7 @@ pub record OtherHolds (work : List ℕ) (at : ℕ) (p : Plan) (e : ℕ) (f : ℕ
   pub is : (m j x : ℕ) → m < p .rows → j < p .planes → rowLo p e m ≤ x → x < rowHi p e m →
       getD work (at + ((p .rows - 1 - m) * rowSize p + (j * p .across + x))) 0 ≡ f (p .rows - 1 - m) j x
 
--- state e is made of the one at `from` and joined with the one at `ends`, whatever they are
-pub record Joined (p : Plan) (e : ℕ) (work old new : List ℕ) (from ends : ℕ) : Type 0 where
-  pub is : (last this other : ℕ → ℕ → ℕ → ℕ) → LastHolds work from p e last → Grown p e (λ q. getD work q 0) last this →
-      OtherHolds work ends p e other → StateJoined p e old new this other (p .rows)
+-- the states from first below past are made of the one at `from`, and the last of them is joined with the one at `ends`, whatever they are
+pub record Joined (p : Plan) (first past : ℕ) (work old new : List ℕ) (from ends : ℕ) : Type 0 where
+  pub is : (f : ℕ → ℕ → ℕ → ℕ → ℕ) (other : ℕ → ℕ → ℕ → ℕ) → LastHolds work from p first (f (first - 1)) →
+      Chain p first past (λ q. getD work q 0) f → OtherHolds work ends p (past - 1) other → StateJoined p (past - 1) old new (f (past - 1)) other (p .rows)

@@ -1,19 +1,20 @@
-// The doors: a state made, or made and joined with another, where the plan can be followed and what is
-// lent has room; a run filled, where it has room. Else nothing is done.
+// The doors: states made, or made and the last joined with another, where the plan can be followed and what
+// is lent has room; a run filled, where it has room. Else nothing is done.
 ghost use mathlib.Core.Path.{_≡_};
 ghost use mathlib.Core.Bool.{true};
-ghost use Prim.Native.Nat.{ℕ, _+_};
+ghost use Prim.Native.Nat.{ℕ, _+_, _<_};
 ghost use lib.Dec.{leb};
 ghost use lib.ListN.{length};
 ghost use Rattle.basics.specs.Cases.{either};
 ghost use Rattle.plans.specs.Forms.{wellFormed};
 ghost use Rattle.states.specs.Runs.{Between};
 ghost use Rattle.states.specs.States.{Advanced, Joined};
-ghost use Rattle.states.specs.Doors.{heldFits, canHold, stateFits, sameOrApart, advances, joins};
+ghost use Rattle.states.specs.Doors.{heldFits, canHold, canMake, stateFits, sameOrApart, advances, joins};
 use crate::runs::fill_run;
-use crate::state::half_of;
+use crate::state::Stretch;
+use crate::state::half_with;
 use crate::state::make_joined;
-use crate::state::make_state;
+use crate::state::make_states;
 use plans::Plan;
 
 // Whether n numbers from `at` on lie within so many.
@@ -26,12 +27,12 @@ fn lies_in(at: usize, n: usize, len: usize) -> bool
     at <= len - n
 }
 
-// Whether the held rows find room.
-fn held_fits(plan: Plan, held: usize, below: usize) -> bool
-    requires { ⌜ wellFormed plan ≡ true ⌝ }
-    ensures { λ r. ⌜ r ≡ heldFits plan held below ⌝ }
+// Whether the held rows find room, where `more` states are made at once with the first.
+fn held_fits(plan: Plan, more: usize, held: usize, below: usize) -> bool
+    requires { ⌜ (wellFormed plan ≡ true) × (more < 65536) ⌝ }
+    ensures { λ r. ⌜ r ≡ heldFits plan more held below ⌝ }
 {
-    let half = half_of(plan);
+    let half = half_with(plan, more);
     if half + half > held {
         return false;
     }
@@ -41,14 +42,30 @@ fn held_fits(plan: Plan, held: usize, below: usize) -> bool
     plan.across + 7 <= below
 }
 
-// Whether the plan can be followed and its held rows find room.
+// Whether the plan can be followed and the held rows of one state find room.
 pub fn can_hold(plan: Plan, held: usize, below: usize) -> bool
     ensures { λ r. ⌜ r ≡ canHold plan held below ⌝ }
 {
     if !plans::is_well_formed(plan) {
         return false;
     }
-    held_fits(plan, held, below)
+    held_fits(plan, 0, held, below)
+}
+
+// Whether the plan can be followed, it has these states, and their held rows find room.
+fn can_make(plan: Plan, states: Stretch, held: usize, below: usize) -> bool
+    ensures { λ r. ⌜ r ≡ canMake plan states held below ⌝ }
+{
+    if !plans::is_well_formed(plan) {
+        return false;
+    }
+    if states.first >= states.past {
+        return false;
+    }
+    if states.past > 65536 {
+        return false;
+    }
+    held_fits(plan, states.past - 1 - states.first, held, below)
 }
 
 // Whether a state at this place finds room behind the keys.
@@ -77,25 +94,19 @@ fn same_or_apart(plan: Plan, from: usize, to: usize) -> bool
     lies_in(to, size, from)
 }
 
-// Whether what a state is made of and where it comes to fit.
+// Whether what states are made of and where the last comes to fit.
 fn can_advance(
     plan: Plan,
-    e: usize,
+    states: Stretch,
     from: usize,
     to: usize,
     work: usize,
     held: usize,
     below: usize,
 ) -> bool
-    ensures { λ r. ⌜ r ≡ advances plan e from to work held below ⌝ }
+    ensures { λ r. ⌜ r ≡ advances plan states from to work held below ⌝ }
 {
-    if !plans::is_well_formed(plan) {
-        return false;
-    }
-    if e >= 65536 {
-        return false;
-    }
-    if !held_fits(plan, held, below) {
+    if !can_make(plan, states, held, below) {
         return false;
     }
     if !state_fits(plan, from, work) {
@@ -107,32 +118,32 @@ fn can_advance(
     same_or_apart(plan, from, to)
 }
 
-// State e at `to`, from the one before at `from`, which may be the same place; the keys stand at the
-// beginning of the work buffer. What `held` and `below` then hold is free.
+// States from the one before at `from`, the last of them at `to`, which may be the same place; the keys
+// stand at the beginning of the work buffer. What `held` and `below` then hold is free.
 pub fn advance(
     work: &mut [u16],
     held: &mut [u16],
     below: &mut [u16],
     plan: Plan,
-    e: usize,
+    states: Stretch,
     from: usize,
     to: usize,
 ) -> bool
-    ensures { λ r. ⌜ r ≡ advances plan e from to (length (now (work .entry))) (length (now (held .entry))) (length (now (below .entry))) ⌝ }
-    ensures { λ r. ⌜ either r (Advanced plan e (now (work .entry)) (now (work .exit)) from to) (now (work .exit) ≡ now (work .entry)) ⌝ }
+    ensures { λ r. ⌜ r ≡ advances plan states from to (length (now (work .entry))) (length (now (held .entry))) (length (now (below .entry))) ⌝ }
+    ensures { λ r. ⌜ either r (Advanced plan (states .first) (states .past) (now (work .entry)) (now (work .exit)) from to) (now (work .exit) ≡ now (work .entry)) ⌝ }
     ensures { λ r. ⌜ (length (now (held .exit)) ≡ length (now (held .entry))) × (length (now (below .exit)) ≡ length (now (below .entry))) ⌝ }
 {
-    if !can_advance(plan, e, from, to, work.len(), held.len(), below.len()) {
+    if !can_advance(plan, states, from, to, work.len(), held.len(), below.len()) {
         return false;
     }
-    make_state(work, held, below, plan, e, from, to);
+    make_states(work, held, below, plan, states, from, to);
     true
 }
 
-// Whether a state can be joined with the one at `ends`.
+// Whether the last of some states can be joined with the one at `ends`.
 fn can_join(
     plan: Plan,
-    e: usize,
+    states: Stretch,
     from: usize,
     ends: usize,
     best: usize,
@@ -140,18 +151,12 @@ fn can_join(
     held: usize,
     below: usize,
 ) -> bool
-    ensures { λ r. ⌜ r ≡ joins plan e from ends best work held below ⌝ }
+    ensures { λ r. ⌜ r ≡ joins plan states from ends best work held below ⌝ }
 {
-    if !plans::is_well_formed(plan) {
+    if !can_make(plan, states, held, below) {
         return false;
     }
-    if e >= 65536 {
-        return false;
-    }
-    if plans::rows_in(plan, e) != plan.rows {
-        return false;
-    }
-    if !held_fits(plan, held, below) {
+    if plans::rows_in(plan, states.past - 1) != plan.rows {
         return false;
     }
     if !state_fits(plan, from, work) {
@@ -163,26 +168,26 @@ fn can_join(
     plan.lines * plan.across <= best
 }
 
-// State e, from the one before at `from`, is joined with the state at `ends` and not kept: the best of each
-// pixel rises to the walks of both that meet there.
+// States from the one before at `from`, the last of which is joined with the state at `ends`: the best of
+// each pixel rises to the walks of both that meet there. None is kept.
 pub fn advance_joined(
     best: &mut [u16],
     work: &[u16],
     held: &mut [u16],
     below: &mut [u16],
     plan: Plan,
-    e: usize,
+    states: Stretch,
     from: usize,
     ends: usize,
 ) -> bool
-    ensures { λ r. ⌜ r ≡ joins plan e from ends (length (now (best .entry))) (length (now (work .entry))) (length (now (held .entry))) (length (now (below .entry))) ⌝ }
-    ensures { λ r. ⌜ either r (Joined plan e (now (work .entry)) (now (best .entry)) (now (best .exit)) from ends) (now (best .exit) ≡ now (best .entry)) ⌝ }
+    ensures { λ r. ⌜ r ≡ joins plan states from ends (length (now (best .entry))) (length (now (work .entry))) (length (now (held .entry))) (length (now (below .entry))) ⌝ }
+    ensures { λ r. ⌜ either r (Joined plan (states .first) (states .past) (now (work .entry)) (now (best .entry)) (now (best .exit)) from ends) (now (best .exit) ≡ now (best .entry)) ⌝ }
     ensures { λ r. ⌜ (length (now (held .exit)) ≡ length (now (held .entry))) × (length (now (below .exit)) ≡ length (now (below .entry))) ⌝ }
     ensures { λ r. ⌜ length (now (best .exit)) ≡ length (now (best .entry)) ⌝ }
 {
     if !can_join(
         plan,
-        e,
+        states,
         from,
         ends,
         best.len(),
@@ -192,7 +197,7 @@ pub fn advance_joined(
     ) {
         return false;
     }
-    make_joined(best, work, held, below, plan, e, from, ends);
+    make_joined(best, work, held, below, plan, states, from, ends);
     true
 }
 

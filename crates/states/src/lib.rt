@@ -9,8 +9,9 @@
 //
 // The leaves (runs.rt) are one loop each, over slices and with no branch on the numbers, so that they are
 // compiled to vector instructions. Rows are made among held ones (rows.rt), each with a zero before and
-// after it, so that no edge is a case of its own. A state is made of the one before, row after row
-// (state.rt), where the numbers that are handed in fit (doors.rt). The crate knows no plate: its contracts speak of any numbers that obey the recursion.
+// after it, so that no edge is a case of its own. States are made of the one before, several at once, row
+// after row (state.rt), where the numbers that are handed in fit (doors.rt). The crate knows no plate: its
+// contracts speak of any numbers that obey the recursion.
 mod doors;
 mod rows;
 mod runs;
@@ -22,3 +23,4 @@ pub use doors::can_hold;
 pub use doors::fill;
 pub use runs::max2;
 pub use runs::min2;
+pub use state::Stretch;

@@ -1,13 +1,14 @@
-// A state from the one before, row after row. Two rows of each state are held at a time, that of the
-// number before (`was`) and that of this number (`now`).
+// States from the one before, several at once, row after row: row m of the first, then that of the next,
+// and so on. Two rows of each state are held at a time, that of the number before (`was`) and that of this
+// number (`now`), so that of all these states only the last is stored.
 ghost use mathlib.Core.Path.{_≡_};
 ghost use mathlib.Core.Logic.{_⊎_};
 ghost use Prim.Native.Nat.{ℕ, _+_, _-_, _*_, _≤_, _<_};
 ghost use lib.ListN.{length, getD};
 ghost use Rattle.states.specs.Runs.{Apart};
-ghost use Rattle.plans.specs.Plans.{Sound, rowsIn, rowLo, rowHi, rowAt, rowSize, stateSize, keysSize, blockOf, halfOf, starts};
-ghost use Rattle.states.specs.States.{Advanced, Joined};
-ghost use Rattle.states.specs.Holding.{Slotted, NextRow, LastRow, tapOf};
+ghost use Rattle.plans.specs.Plans.{Sound, rowsIn, rowLo, rowHi, rowAt, stateSize, keysSize, blockOf, halfOf, halfWith, starts};
+ghost use Rattle.states.specs.States.{Advanced, Joined, furtherIn};
+ghost use Rattle.states.specs.Holding.{Slotted, Halves, MadeRow, NextRows, LastRow, tapOf};
 use crate::rows::blend_row;
 use crate::rows::join_row;
 use crate::rows::load_row;
@@ -18,6 +19,12 @@ use crate::runs::fill_run;
 use plans::Plan;
 use plans::Row;
 use plans::rows_in;
+
+// States that are made at once: from number `first` below `past`.
+pub struct Stretch {
+    pub first: usize,
+    pub past: usize,
+}
 
 // Where the rows of the number before and of this number begin: the row of this state, then that of the
 // last state where states are linked.
@@ -35,6 +42,17 @@ fn swapped(slots: Slots) -> Slots
     }
 }
 
+// So much further on in both halves.
+fn further(slots: Slots, by: usize) -> Slots
+    requires { ⌜ (slots .was + by < 65536) × (slots .now + by < 65536) ⌝ }
+    ensures { λ r. ⌜ (r .was ≡ slots .was + by) × (r .now ≡ slots .now + by) ⌝ }
+{
+    Slots {
+        was: slots.was + by,
+        now: slots.now + by,
+    }
+}
+
 // Row m of state e, which is one of the plan's.
 fn row_in(plan: Plan, e: usize, m: usize) -> Row
     requires { ⌜ Sound plan ⌝ }
@@ -44,13 +62,18 @@ fn row_in(plan: Plan, e: usize, m: usize) -> Row
     plans::row_of(plan, e, m)
 }
 
-// How much the rows of one number take.
-pub(crate) fn half_of(plan: Plan) -> usize
-    requires { ⌜ (plan .planes ≤ 9) × (plan .across ≤ 1024) ⌝ }
-    ensures { λ r. ⌜ (r ≡ halfOf plan) × (blockOf plan ≤ r) × (r ≤ 18612) ⌝ }
+// How much the rows of one number take, where `more` states are made at once with the first.
+pub(crate) fn half_with(plan: Plan, more: usize) -> usize
+    requires { ⌜ (plan .planes ≤ 9) × (plan .across ≤ 1024) × (more < 65536) ⌝ }
+    ensures { λ r. ⌜ (r ≡ halfWith plan more) × (r ≤ 609887322) ⌝ }
 {
     let block = plan.planes * (plan.across + 10);
-    if plan.linked { block + block } else { block }
+    let others = more * block;
+    if plan.linked {
+        block + block + others
+    } else {
+        block + others
+    }
 }
 
 // Whether the walks of row m of state e are those of no steps.
@@ -78,7 +101,7 @@ fn tap(plan: Plan, slots: Slots, y: usize, x: usize) -> usize
     slots.now + block + x
 }
 
-// Row m of the last state is held at a slot, zeros where there is none.
+// Row m of the last state is held at a slot where states are linked, zeros where there is none.
 fn hold_last(
     held: &mut [u16],
     slot: usize,
@@ -89,10 +112,13 @@ fn hold_last(
     m: usize,
 )
     requires { ⌜ Sound plan ⌝ }
-    requires { ⌜ (e < 65536) × (m < rowsIn plan e) × (slot + blockOf plan ≤ length (now held)) × (from + stateSize plan ≤ length (now work)) ⌝ }
+    requires { ⌜ (e < 65536) × (m < rowsIn plan e) × (slot + (halfOf plan - blockOf plan) ≤ length (now held)) × (from + stateSize plan ≤ length (now work)) ⌝ }
     ensures { λ _. ⌜ LastRow plan e m (now (work .entry)) from (now (held .exit)) slot ⌝ }
-    ensures { λ _. ⌜ Apart (now (held .entry)) (now (held .exit)) slot (slot + blockOf plan) ⌝ }
+    ensures { λ _. ⌜ Apart (now (held .entry)) (now (held .exit)) slot (slot + (halfOf plan - blockOf plan)) ⌝ }
 {
+    if !plan.linked {
+        return;
+    }
     if e == 0 {
         fill_run(held, slot, plan.planes * (plan.across + 10), 0);
     } else {
@@ -102,28 +128,23 @@ fn hold_last(
     }
 }
 
-// Row m of state e, made of the rows of the number before and of the last state's row m.
-fn next_row(
+// Row m of state e, made of the rows of the number before and of the last state's row m, which is held.
+fn make_row(
     held: &mut [u16],
     below: &mut [u16],
     work: &[u16],
     plan: Plan,
     e: usize,
     m: usize,
-    from: usize,
     slots: Slots,
 )
     requires { ⌜ Sound plan ⌝ }
-    requires { ⌜ (e < 65536) × (m < rowsIn plan e) × (from + stateSize plan ≤ length (now work)) × (keysSize plan ≤ length (now work)) ⌝ }
+    requires { ⌜ (e < 65536) × (m < rowsIn plan e) × (keysSize plan ≤ length (now work)) ⌝ }
     requires { ⌜ (Slotted plan slots (length (now held))) × (plan .across + 7 ≤ length (now below)) ⌝ }
-    ensures { λ _. ⌜ NextRow plan e m (now (work .entry)) from slots (now (held .entry)) (now (held .exit)) ⌝ }
+    ensures { λ _. ⌜ MadeRow plan e m (now (work .entry)) slots (now (held .entry)) (now (held .exit)) ⌝ }
     ensures { λ _. ⌜ length (now (below .exit)) ≡ length (now (below .entry)) ⌝ }
 {
     let row = row_in(plan, e, m);
-    if plan.linked {
-        let block = plan.planes * (plan.across + 10);
-        hold_last(held, slots.now + block, work, from, plan, e, m);
-    }
     if starts_at(plan, e, m) {
         start_row(held, slots.now, work, plan, row, m);
         return;
@@ -137,33 +158,65 @@ fn next_row(
     blend_row(held, below, work, plan, row, taps);
 }
 
-// State e at `to`, from the one before at `from`, which may be the same place: a row of it is read before
-// its place is written. The keys stand at the beginning of the work buffer; what `held` and `below` hold
-// is free.
-pub(crate) fn make_state(
+// Row m of all states, that of the last one first in its half, so that beside the row of each is that of
+// the one before; for the first it comes from the work buffer.
+fn next_rows(
+    held: &mut [u16],
+    below: &mut [u16],
+    work: &[u16],
+    plan: Plan,
+    states: Stretch,
+    m: usize,
+    from: usize,
+    slots: Slots,
+)
+    requires { ⌜ (Sound plan) × (states .first < states .past) × (states .past ≤ 65536) ⌝ }
+    requires { ⌜ (m < rowsIn plan (states .past - 1)) × (from + stateSize plan ≤ length (now work)) × (keysSize plan ≤ length (now work)) ⌝ }
+    requires { ⌜ (Halves plan (furtherIn states) slots (length (now held))) × (plan .across + 7 ≤ length (now below)) ⌝ }
+    ensures { λ _. ⌜ NextRows plan (states .first) (states .past) m (now (work .entry)) from slots (now (held .entry)) (now (held .exit)) ⌝ }
+    ensures { λ _. ⌜ length (now (below .exit)) ≡ length (now (below .entry)) ⌝ }
+{
+    let block = plan.planes * (plan.across + 10);
+    let first = states.first;
+    let mut at = (states.past - 1 - first) * block;
+    hold_last(held, slots.now + at + block, work, from, plan, first, m);
+    make_row(held, below, work, plan, first, m, further(slots, at));
+    let mut e = first + 1;
+    while e < states.past {
+        at -= block;
+        make_row(held, below, work, plan, e, m, further(slots, at));
+        e += 1;
+    }
+}
+
+// States from the one before at `from`, the last of them at `to`, which may be the same place: a row is
+// read before its place is written. The keys stand at the beginning of the work buffer; what `held` and
+// `below` hold is free.
+pub(crate) fn make_states(
     work: &mut [u16],
     held: &mut [u16],
     below: &mut [u16],
     plan: Plan,
-    e: usize,
+    states: Stretch,
     from: usize,
     to: usize,
 )
-    requires { ⌜ Sound plan ⌝ }
-    requires { ⌜ (e < 65536) × (keysSize plan ≤ from) × (keysSize plan ≤ to) × (from + stateSize plan ≤ length (now work)) × (to + stateSize plan ≤ length (now work)) ⌝ }
+    requires { ⌜ (Sound plan) × (states .first < states .past) × (states .past ≤ 65536) ⌝ }
+    requires { ⌜ (keysSize plan ≤ from) × (keysSize plan ≤ to) × (from + stateSize plan ≤ length (now work)) × (to + stateSize plan ≤ length (now work)) ⌝ }
     requires { ⌜ ((from ≡ to) ⊎ ((from + stateSize plan ≤ to) ⊎ (to + stateSize plan ≤ from))) ⌝ }
-    requires { ⌜ (halfOf plan + halfOf plan ≤ length (now held)) × (length (now held) ≤ 40000) × (plan .across + 7 ≤ length (now below)) ⌝ }
-    ensures { λ _. ⌜ Advanced plan e (now (work .entry)) (now (work .exit)) from to ⌝ }
+    requires { ⌜ (halfWith plan (furtherIn states) + halfWith plan (furtherIn states) ≤ length (now held)) × (length (now held) ≤ 40000) × (plan .across + 7 ≤ length (now below)) ⌝ }
+    ensures { λ _. ⌜ Advanced plan (states .first) (states .past) (now (work .entry)) (now (work .exit)) from to ⌝ }
     ensures { λ _. ⌜ (length (now (held .exit)) ≡ length (now (held .entry))) × (length (now (below .exit)) ≡ length (now (below .entry))) ⌝ }
 {
-    let half = half_of(plan);
+    let e = states.past - 1;
+    let half = half_with(plan, e - states.first);
     fill_run(held, 0, half, 0);
     let mut slots = Slots { was: 0, now: half };
     let rows = rows_in(plan, e);
     let mut at = to;
     let mut m = 0;
     while m < rows {
-        next_row(held, below, work, plan, e, m, from, slots);
+        next_rows(held, below, work, plan, states, m, from, slots);
         let row = row_in(plan, e, m);
         store_row(work, at, held, slots.now, plan, row);
         slots = swapped(slots);
@@ -172,34 +225,36 @@ pub(crate) fn make_state(
     }
 }
 
-// State e, from the one before at `from`, is joined with the state at `ends` and not kept: the best of each
-// pixel rises to the walks of both that meet there. Row m meets row m of the other, counted from its last.
+// States from the one before at `from`, none of which is kept: the last is joined with the state at `ends`,
+// so that the best of each pixel rises to the walks of both that meet there. Row m meets row m of the other,
+// counted from its last.
 pub(crate) fn make_joined(
     best: &mut [u16],
     work: &[u16],
     held: &mut [u16],
     below: &mut [u16],
     plan: Plan,
-    e: usize,
+    states: Stretch,
     from: usize,
     ends: usize,
 )
-    requires { ⌜ Sound plan ⌝ }
-    requires { ⌜ (e < 65536) × (rowsIn plan e ≡ plan .rows) × (keysSize plan ≤ length (now best)) ⌝ }
+    requires { ⌜ (Sound plan) × (states .first < states .past) × (states .past ≤ 65536) ⌝ }
+    requires { ⌜ (rowsIn plan (states .past - 1) ≡ plan .rows) × (keysSize plan ≤ length (now best)) ⌝ }
     requires { ⌜ (keysSize plan ≤ from) × (from + stateSize plan ≤ length (now work)) × (ends + stateSize plan ≤ length (now work)) ⌝ }
-    requires { ⌜ (halfOf plan + halfOf plan ≤ length (now held)) × (length (now held) ≤ 40000) × (plan .across + 7 ≤ length (now below)) ⌝ }
-    ensures { λ _. ⌜ Joined plan e (now (work .entry)) (now (best .entry)) (now (best .exit)) from ends ⌝ }
+    requires { ⌜ (halfWith plan (furtherIn states) + halfWith plan (furtherIn states) ≤ length (now held)) × (length (now held) ≤ 40000) × (plan .across + 7 ≤ length (now below)) ⌝ }
+    ensures { λ _. ⌜ Joined plan (states .first) (states .past) (now (work .entry)) (now (best .entry)) (now (best .exit)) from ends ⌝ }
     ensures { λ _. ⌜ (length (now (held .exit)) ≡ length (now (held .entry))) × (length (now (below .exit)) ≡ length (now (below .entry))) ⌝ }
     ensures { λ _. ⌜ length (now (best .exit)) ≡ length (now (best .entry)) ⌝ }
 {
-    let half = half_of(plan);
+    let e = states.past - 1;
+    let half = half_with(plan, e - states.first);
     fill_run(held, 0, half, 0);
     let mut slots = Slots { was: 0, now: half };
     let size = plan.planes * plan.across;
     let mut at = ends + plan.rows * size;
     let mut m = 0;
     while m < plan.rows {
-        next_row(held, below, work, plan, e, m, from, slots);
+        next_rows(held, below, work, plan, states, m, from, slots);
         at -= size;
         let row = row_in(plan, e, m);
         join_row(best, held, slots.now, work, at, plan, row);

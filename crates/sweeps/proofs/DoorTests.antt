@@ -14,7 +14,7 @@ use Rattle.plans.specs.declared.plan.Reach.{Reach}
 use Rattle.plans.proofs.FormFacts.{both, Formed, formed, among-from, among-high}
 use Rattle.plans.proofs.FormTests.{orders-ranked, orders-lines}
 use Rattle.states.specs.Doors.{canHold}
-use Rattle.states.proofs.DoorTests.{Held, hold-if, state-few}
+use Rattle.states.proofs.DoorTests.{hold-if, state-few}
 use Rattle.sweeps.specs.Stacks.{StackFits}
 use Rattle.sweeps.specs.Doors.{statesOf, recounted, otherEnd, roomFor, sweepable, stackFits, fetches, hasTop, topOf}
 use Rattle.sweeps.specs.declared.stack.Stack.{Stack}
@@ -72,41 +72,41 @@ module _ (p : Plan) where
 -- ---- a sweep
 
 module _ (p : Plan) (reach : Reach) (work best : ℕ) where
-  pub sweeps-1 : canHold p 18612 1032 ≡ false → false ≡ sweepable p reach work best
+  pub sweeps-1 : canHold p 23940 1032 ≡ false → false ≡ sweepable p reach work best
   unfolding sweepable
   sweeps-1 a = rw a refl
 
-  pub sweeps-2 : canHold p 18612 1032 ≡ true → wellFormed (otherEnd p reach) ≡ false → false ≡ sweepable p reach work best
+  pub sweeps-2 : canHold p 23940 1032 ≡ true → wellFormed (otherEnd p reach) ≡ false → false ≡ sweepable p reach work best
   unfolding sweepable
   sweeps-2 a b = rw (a, b) refl
 
-  pub sweeps-3 : canHold p 18612 1032 ≡ true → wellFormed (otherEnd p reach) ≡ true → (n : ℕ) → n ≡ statesOf p → 1024 < n →
+  pub sweeps-3 : canHold p 23940 1032 ≡ true → wellFormed (otherEnd p reach) ≡ true → (n : ℕ) → n ≡ statesOf p → 1024 < n →
       false ≡ sweepable p reach work best
   unfolding sweepable
   sweeps-3 a b n e d = rw (a, b, sym e, lt-leb n 1024 d) refl
 
-  pub sweeps-4 : canHold p 18612 1032 ≡ true → wellFormed (otherEnd p reach) ≡ true → (n : ℕ) → n ≡ statesOf p → n ≤ 1024 →
+  pub sweeps-4 : canHold p 23940 1032 ≡ true → wellFormed (otherEnd p reach) ≡ true → (n : ℕ) → n ≡ statesOf p → n ≤ 1024 →
       (m : ℕ) → m ≡ roomFor p → work < m → false ≡ sweepable p reach work best
   unfolding sweepable
   sweeps-4 a b n e d m f g = rw (a, b, sym e, le-leb n 1024 d, sym f, lt-leb m work g) refl
 
-  pub sweeps-5 : canHold p 18612 1032 ≡ true → wellFormed (otherEnd p reach) ≡ true → (n : ℕ) → n ≡ statesOf p → n ≤ 1024 →
+  pub sweeps-5 : canHold p 23940 1032 ≡ true → wellFormed (otherEnd p reach) ≡ true → (n : ℕ) → n ≡ statesOf p → n ≤ 1024 →
       (m : ℕ) → m ≡ roomFor p → m ≤ work → best < keysSize p → false ≡ sweepable p reach work best
   unfolding sweepable
   sweeps-5 a b n e d m f g h = rw (a, b, sym e, le-leb n 1024 d, sym f, le-leb m work g, lt-leb (keysSize p) best h) refl
 
-  pub sweeps-6 : canHold p 18612 1032 ≡ true → wellFormed (otherEnd p reach) ≡ true → (n : ℕ) → n ≡ statesOf p → n ≤ 1024 →
+  pub sweeps-6 : canHold p 23940 1032 ≡ true → wellFormed (otherEnd p reach) ≡ true → (n : ℕ) → n ≡ statesOf p → n ≤ 1024 →
       (m : ℕ) → m ≡ roomFor p → m ≤ work → keysSize p ≤ best → true ≡ sweepable p reach work best
   unfolding sweepable
   sweeps-6 a b n e d m f g h = rw (a, b, sym e, le-leb n 1024 d, sym f, le-leb m work g, le-leb (keysSize p) best h) refl
 
   -- a sweep of plans that can be followed, with room, is taken
-  pub sweeps-if : wellFormed p ≡ true → halfOf p + halfOf p ≤ 18612 → wellFormed (otherEnd p reach) ≡ true → statesOf p ≤ 1024 → roomFor p ≤ work →
+  pub sweeps-if : wellFormed p ≡ true → halfOf p + halfOf p ≤ 23940 → wellFormed (otherEnd p reach) ≡ true → statesOf p ≤ 1024 → roomFor p ≤ work →
       keysSize p ≤ best → sweepable p reach work best ≡ true
   sweeps-if w h o s r b =
       sym
       (sweeps-6
-      (hold-if p 18612 1032 w record { twice = h; few = omega arith; plane = omega (arith, formed p w .limits .few-across) })
+      (hold-if p 23940 1032 w h (omega arith) (omega (arith, formed p w .limits .few-across)))
       o (statesOf p) refl s (roomFor p) refl r b)
 
 -- ---- a stack
@@ -198,26 +198,33 @@ module _ (p : Plan) (s : Stack) (work marks : ℕ) where
   pub places-few : wellFormed p ≡ true → s .places ≤ 64 → s .places * stateSize p ≤ 64 * 9437184
   places-few w e = mul-le-mul {n₁ = s .places} {m₁ = stateSize p} {n₂ = 64} {m₂ = 9437184} e (state-few p w)
 
-module _ (p : Plan) (s : Stack) (want work marks held below : ℕ) where
-  pub fetches-1 : canHold p held below ≡ false → fetches p s want work marks held below ≡ false
+module _ (p : Plan) (s : Stack) (want spare work marks held below : ℕ) where
+  pub fetches-1 : canHold p held below ≡ false → fetches p s want spare work marks held below ≡ false
   unfolding fetches
   fetches-1 a = rw a refl
 
-  pub fetches-2 : canHold p held below ≡ true → stackFits p s work marks ≡ false → fetches p s want work marks held below ≡ false
+  pub fetches-2 : canHold p held below ≡ true → stackFits p s work marks ≡ false → fetches p s want spare work marks held below ≡ false
   unfolding fetches
   fetches-2 a b = rw (a, b) refl
 
-  pub fetches-3 : canHold p held below ≡ true → stackFits p s work marks ≡ true → 1024 < want → fetches p s want work marks held below ≡ false
+  pub fetches-3 : canHold p held below ≡ true → stackFits p s work marks ≡ true → 1024 < want → fetches p s want spare work marks held below ≡ false
   unfolding fetches
   fetches-3 a b d = rw (a, b, lt-leb want 1024 d) refl
 
-  pub fetches-4 : canHold p held below ≡ true → stackFits p s work marks ≡ true → want ≤ 1024 → fetches p s want work marks held below ≡ true
+  pub fetches-4 : canHold p held below ≡ true → stackFits p s work marks ≡ true → want ≤ 1024 → 1024 < spare →
+      fetches p s want spare work marks held below ≡ false
   unfolding fetches
-  fetches-4 a b d = rw (a, b, le-leb want 1024 d) refl
+  fetches-4 a b d e = rw (a, b, le-leb want 1024 d, lt-leb spare 1024 e) refl
+
+  pub fetches-5 : canHold p held below ≡ true → stackFits p s work marks ≡ true → want ≤ 1024 → spare ≤ 1024 →
+      fetches p s want spare work marks held below ≡ true
+  unfolding fetches
+  fetches-5 a b d e = rw (a, b, le-leb want 1024 d, le-leb spare 1024 e) refl
 
   -- a stack that has room, of a plan that can be followed, is fetched
-  pub fetches-if : wellFormed p ≡ true → Held p held below → StackFits p s work marks → want ≤ 1024 → fetches p s want work marks held below ≡ true
-  fetches-if w h f l = fetches-4 (hold-if p held below w h) (stack-if p s work marks f) l
+  pub fetches-if : wellFormed p ≡ true → halfOf p + halfOf p ≤ held → held ≤ 40000 → p .across + 7 ≤ below → StackFits p s work marks → want ≤ 1024 →
+      spare ≤ 1024 → fetches p s want spare work marks held below ≡ true
+  fetches-if w a b d f l k = fetches-5 (hold-if p held below w a b d) (stack-if p s work marks f) l k
 
 -- ---- its top
 

@@ -4,6 +4,7 @@
 -- and more, divided by t, is.
 use Prim.Native.Nat.{ℕ, zero, suc, _+_, _-_, _*_, _/_, _≤_, _<_}
 use mathlib.Core.Path.{_≡_, refl, sym, ap, _∙_, subst}
+use mathlib.Core.Bool.{true}
 use mathlib.Core.Logic.{_⊎_, inl, inr, ⊎-elim}
 use mathlib.Core.List.{List}
 use native.Mathlib.Nat.{add-mul, mul-le-mul, le-div-iff-mul-le, div-mul-le-self}
@@ -12,18 +13,18 @@ use lib.ListN.{length, getD, set, length-set}
 use lib.Seq.{getD-set-same, getD-set-other}
 use Rattle.basics.proofs.Numbers.{le-or-lt, rows-fit}
 use Rattle.states.specs.Runs.{Apart}
-use Rattle.plans.specs.Plans.{Sound, rowsIn, rowHi, rowSize, stateSize, keysSize}
-use Rattle.states.specs.States.{Grown, Holds, LastHolds, Advanced}
+use Rattle.plans.specs.Plans.{Sound, rowsIn, rowHi, rowSize, stateSize, keysSize, blockOf, halfOf, halfWith}
+use Rattle.states.specs.States.{Grown, Chain, Holds, LastHolds, Advanced}
 use Rattle.sweeps.specs.Stacks.{KeysAre, Sequence, Stacked, RunOn, Pushed, Fetched, lastMark}
 use Rattle.plans.specs.declared.plan.Plan.{Plan}
 use Rattle.sweeps.specs.declared.stack.Stack.{Stack}
 use Rattle.plans.proofs.PlanSizes.{rows-few}
-use Rattle.states.proofs.SizeLaws.{row-small}
+use Rattle.states.proofs.SizeLaws.{row-small, half-linked}
 use Rattle.states.proofs.StateLaws.{grown-keys}
 
 -- ---- the stride
 
-pub product-small : (c places t : ℕ) → c ≤ 1024 → places ≤ 64 → t < 1024 → c * (places + t) ≤ 1114112
+pub product-small : (c places t : ℕ) → c ≤ 1024 → places ≤ 65 → t < 1024 → c * (places + t) ≤ 1114112
 product-small c places t hc hp ht = let e : c * (places + t) ≤ 1024 * 1088 = mul-le-mul hc (let f : places + t ≤ 1088 = omega arith in f) in omega arith
 
 pub quotient-grows : (c places t : ℕ) → 1 ≤ t → c ≤ c * (places + t) / t
@@ -39,6 +40,24 @@ two-places length size h l = le-div-iff-mul-le h .1 l
 -- as many states as a number below the places find room, and one more
 pub places-fit : (length size n : ℕ) → n < length / size → n * size + size ≤ length
 places-fit length size n h = omega (arith, rows-fit n 1 (length / size) size (omega arith), div-mul-le-self length size)
+
+-- ---- the rows held of several states
+
+-- fewer states take no more
+pub half-fewer : (p : Plan) (a b held : ℕ) → a ≤ b → halfWith p b + halfWith p b ≤ held → halfWith p a + halfWith p a ≤ held
+half-fewer p a b held l h = omega (arith, rows-fit a 0 b (blockOf p) (omega arith))
+
+-- one state by itself
+pub half-one : (p : Plan) (e held : ℕ) → halfOf p + halfOf p ≤ held → halfWith p (e + 1 - 1 - e) + halfWith p (e + 1 - 1 - e) ≤ held
+half-one p e held h = half-fewer p (e + 1 - 1 - e) 0 held (omega arith) (omega arith)
+
+-- as many as find room
+pub half-many : (p : Plan) (held n : ℕ) → p .linked ≡ true → 1 ≤ n → n < held / 2 / blockOf p → halfWith p (n - 1) + halfWith p (n - 1) ≤ held
+half-many p held n linked some few =
+    let room = places-fit (held / 2) (blockOf p) n few in
+    let again : (n - 1) * blockOf p + blockOf p ≡ n * blockOf p =
+    omega (arith, add-mul (n - 1) 1 (blockOf p)) ∙ ap (λ (q : ℕ). q * blockOf p) (let w : n - 1 + 1 ≡ n = omega arith in w) in
+    omega (arith, half-linked p linked, div-mul-le-self held 2)
 
 -- ---- the last mark
 
@@ -58,10 +77,6 @@ last-pushed marks d m h = ap (lastMark (set marks d m)) (let e : d + 1 ≡ suc d
 pub some-state : (marks : List ℕ) (d : ℕ) → 1 ≤ lastMark marks d → 1 ≤ d
 some-state marks zero h = absurd (omega (arith, last-none marks))
 some-state marks (suc d) h = omega arith
-
--- a place is left where the last mark is not the wanted one
-pub place-left : (marks : List ℕ) (d places m want : ℕ) → d ≤ places → (d ≡ places → lastMark marks d ≡ want) → m ≡ lastMark marks d → m < want → d < places
-place-left marks d places m want l full e h = elim (le-or-lt places d) [ inl k ↦ absurd (omega (arith, full (omega arith))) | inr k ↦ k ]
 
 -- ---- what is left alone
 
@@ -115,9 +130,9 @@ some-size p s =
     let row : 1 * 1 ≤ p .planes * p .across = mul-le-mul (s .some-planes) (s .some-across) in
     let all : 1 * 1 ≤ p .rows * rowSize p = mul-le-mul (s .some-rows) (let e : 1 ≤ rowSize p = omega arith in e) in omega arith
 
--- the states after the one numbered first, up to number past, made in its place
+-- the states from first below past, made in the place of the one before
 pub record RunFrom (p : Plan) (first past : ℕ) (old new : List ℕ) (to : ℕ) : Type 0 where
-  pub is : (keys : ℕ → ℕ) (f : ℕ → ℕ → ℕ → ℕ → ℕ) → KeysAre old p keys → Sequence p keys past f → Holds old to p first (f first) →
+  pub is : (keys : ℕ → ℕ) (f : ℕ → ℕ → ℕ → ℕ → ℕ) → KeysAre old p keys → Sequence p keys past f → Holds old to p (first - 1) (f (first - 1)) →
       Holds new to p (past - 1) (f (past - 1))
   pub apart : Apart old new to (to + stateSize p)
 
@@ -174,6 +189,23 @@ module _ (p : Plan) (sound : Sound p) where
       Sequence p keys states f → Grown p e (λ q. getD work q 0) (f (e - 1)) (f e)
   grown-here work keys states e f l h k s = grown-keys p e keys (λ q. getD work q 0) (f (e - 1)) (f e) sound l (k .is) (s .grown e h)
 
+  -- the same of some states
+  pub chain-here : (work : List ℕ) (keys : ℕ → ℕ) (states first past : ℕ) (f : ℕ → ℕ → ℕ → ℕ → ℕ) → past ≤ 65536 → past ≤ states → KeysAre work p keys →
+      Sequence p keys states f → Chain p first past (λ q. getD work q 0) f
+  chain-here work keys states first past f few l k s =
+      record { grown = λ e lo hi. grown-here work keys states e f (omega arith) (omega arith) k s }
+
+  -- the last of them, where the one before stands
+  pub made-all : (old new : List ℕ) (keys : ℕ → ℕ) (states first past from to : ℕ) (f : ℕ → ℕ → ℕ → ℕ → ℕ) → past ≤ 65536 → past ≤ states →
+      Advanced p first past old new from to → KeysAre old p keys → Sequence p keys states f → LastHolds old from p first (f (first - 1)) →
+      Holds new to p (past - 1) (f (past - 1))
+  made-all old new keys states first past from to f few l a k s last = a .is f last (chain-here old keys states first past f few l k s)
+
+  -- the state before the next one
+  last-stands : (work : List ℕ) (at e : ℕ) (f : ℕ → ℕ → ℕ → ℕ → ℕ) → Holds work at p (e - 1) (f (e - 1)) → LastHolds work at p e (f (e - 1))
+  last-stands work at e f h =
+      record { is = λ d k q. subst (λ (n : ℕ). Holds work at p n (f (e - 1))) (let w : e - 1 ≡ d = omega arith in w) h }
+
   -- ---- a run of states
 
   pub keys-apart : (old new : List ℕ) (keys : ℕ → ℕ) (lo hi : ℕ) → Apart old new lo hi → keysSize p ≤ lo → KeysAre old p keys → KeysAre new p keys
@@ -183,38 +215,33 @@ module _ (p : Plan) (sound : Sound p) where
   fewer keys states n f l s = record { grown = λ e h. s .grown e (omega arith) }
 
   -- the state that is made, where the last one stands
-  pub made : (old new : List ℕ) (keys : ℕ → ℕ) (states e from to : ℕ) (f : ℕ → ℕ → ℕ → ℕ → ℕ) → e < 65536 → e < states → Advanced p e old new from to →
-      KeysAre old p keys → Sequence p keys states f → LastHolds old from p e (f (e - 1)) → Holds new to p e (f e)
-  made old new keys states e from to f l h a k s last = a .is (f (e - 1)) (f e) last (grown-here old keys states e f l h k s)
+  pub made : (old new : List ℕ) (keys : ℕ → ℕ) (states e from to : ℕ) (f : ℕ → ℕ → ℕ → ℕ → ℕ) → e < 65536 → e < states →
+      Advanced p e (e + 1) old new from to → KeysAre old p keys → Sequence p keys states f → LastHolds old from p e (f (e - 1)) → Holds new to p e (f e)
+  made old new keys states e from to f l h a k s last =
+      subst (λ (n : ℕ). Holds new to p n (f n)) (let w : e + 1 - 1 ≡ e = omega arith in w)
+      (made-all old new keys states e (e + 1) from to f (omega arith) (omega arith) a k s last)
 
-  pub run-none : (first to : ℕ) (work : List ℕ) → RunFrom p first (first + 1) work work to
-  run-none first to work =
-      record {
-        is = λ keys f k s h. subst (λ (n : ℕ). Holds work to p n (f n)) (let w : first ≡ first + 1 - 1 = omega arith in w) h;
-        apart = apart-none _ _ _;
-      }
+  pub run-none : (first to : ℕ) (work : List ℕ) → RunFrom p first first work work to
+  run-none first to work = record { is = λ keys f k s h. h; apart = apart-none _ _ _ }
 
-  pub run-more : (first e to : ℕ) (old mid new : List ℕ) → first < e → e < 65536 → keysSize p ≤ to → RunFrom p first e old mid to →
-      Advanced p e mid new to to → RunFrom p first (e + 1) old new to
-  run-more first e to old mid new o l clear r a =
+  pub run-more : (first e n to : ℕ) (old mid new : List ℕ) → e < n → n ≤ 65536 → keysSize p ≤ to → RunFrom p first e old mid to →
+      Advanced p e n mid new to to → RunFrom p first n old new to
+  run-more first e n to old mid new o l clear r a =
       record {
         is = λ keys f k s h.
-            let before = r .is keys f k (fewer keys (e + 1) e f (omega arith) s) h in
-            let again : e - 1 + 1 ≡ e = omega arith in
-            let here = subst (λ (n : ℕ). LastHolds mid to p n (f (n - 1))) again (last-made mid to (e - 1) f before) in
-            subst (λ (n : ℕ). Holds new to p n (f n)) (let w : e ≡ e + 1 - 1 = omega arith in w)
-            (made mid new keys (e + 1) e to to f l (omega arith) a (keys-apart old mid keys to (to + z) (r .apart) clear k) s here);
+            let before = r .is keys f k (fewer keys n e f (omega arith) s) h in
+            made-all mid new keys n e n to to f l (omega arith) a (keys-apart old mid keys to (to + z) (r .apart) clear k) s (last-stands mid to e f before);
         apart = apart-then old mid new to (to + z) (r .apart) (a .apart);
       }
 
-  pub run-all : (first past e from to : ℕ) (old mid new : List ℕ) → first < past → past ≤ 1024 → keysSize p ≤ to → e ≡ past →
-      Advanced p first old mid from to → RunFrom p first e mid new to → RunOn p first past old new from to
-  run-all first past e from to old mid new o l clear w a r =
-      let r′ = subst (λ (n : ℕ). RunFrom p first n mid new to) w r in
+  pub run-all : (first mark past e from to : ℕ) (old mid new : List ℕ) → mark ≤ past → past ≤ 1024 → keysSize p ≤ to → e ≡ past →
+      Advanced p first mark old mid from to → RunFrom p mark e mid new to → RunOn p first past old new from to
+  run-all first mark past e from to old mid new o l clear w a r =
+      let r′ = subst (λ (n : ℕ). RunFrom p mark n mid new to) w r in
       record {
         is = λ keys f k s last.
             r′ .is keys f (keys-apart old mid keys to (to + z) (a .apart) clear k) s
-            (made old mid keys past first from to f (omega arith) o a k s last);
+            (made-all old mid keys past first mark from to f (omega arith) o a k s last);
         apart = apart-then old mid new to (to + z) (a .apart) (r′ .apart);
       }
 
@@ -268,14 +295,13 @@ module _ (p : Plan) (sound : Sound p) where
       ] in
       record { marked = λ t k. each t k .0; few = λ t k. each t k .1; holds = λ t k. each t k .2 }
 
-  pub pushed : (old new marks : List ℕ) (base d want m first from : ℕ) → d < length marks → keysSize p ≤ base → first ≡ lastMark marks d → first < m →
-      m ≤ want → want ≤ 1024 → from ≡ base + (d - 1) * z → RunOn p first m old new from (base + d * z) →
-      Pushed p base d want old marks new (set marks d m)
-  pushed old new marks base d want m first from l clear is-first o w few is-from r =
+  pub pushed : (old new marks : List ℕ) (base d m first from : ℕ) → d < length marks → first ≡ lastMark marks d → first < m →
+      m ≤ 1024 → from ≡ base + (d - 1) * z → RunOn p first m old new from (base + d * z) → Pushed p base d m old marks new (set marks d m)
+  pushed old new marks base d m first from l is-first o few is-from r =
       record {
         is = λ keys f k s stack.
             stacked-more old new marks base d m f l (omega arith) (omega arith) stack (r .apart)
-            (r .is keys f k (fewer keys want m f w s) (top-holds old marks base d first from f stack is-first is-from));
+            (r .is keys f k s (top-holds old marks base d first from f stack is-first is-from));
         apart = apart-wider old new _ _ _ _ (r .apart) (omega arith) (omega (arith, add-mul d 1 z));
         len = length-set marks d m;
       }
@@ -286,16 +312,16 @@ module _ (p : Plan) (sound : Sound p) where
   fetch-none s depth want work marks l =
       record { is = λ keys f k q stack. stacked-fewer work marks (s .base) (s .depth) depth f stack l; apart = apart-none _ _ _; len = refl }
 
-  pub fetch-more : (s : Stack) (d want : ℕ) (old marks mid marks₁ new marks₂ : List ℕ) → d < s .places → keysSize p ≤ s .base →
-      Fetching p s d want old marks mid marks₁ → Pushed p (s .base) d want mid marks₁ new marks₂ → Fetching p s (d + 1) want old marks new marks₂
-  fetch-more s d want old marks mid marks₁ new marks₂ l clear h r =
+  pub fetch-more : (s : Stack) (d want next : ℕ) (old marks mid marks₁ new marks₂ : List ℕ) → d < s .places → next ≤ want → keysSize p ≤ s .base →
+      Fetching p s d want old marks mid marks₁ → Pushed p (s .base) d next mid marks₁ new marks₂ → Fetching p s (d + 1) want old marks new marks₂
+  fetch-more s d want next old marks mid marks₁ new marks₂ l w clear h r =
       record {
-        is = λ keys f k q stack. r .is keys f (keys-apart old mid keys _ _ (h .apart) clear k) q (h .is keys f k q stack);
+        is = λ keys f k q stack. r .is keys f (keys-apart old mid keys _ _ (h .apart) clear k) (fewer keys want next f w q) (h .is keys f k q stack);
         apart = apart-then old mid new _ _ (h .apart)
             (apart-wider mid new _ _ _ _ (r .apart) (omega arith) (omega (arith, rows-fit (d + 1) 0 (s .places) z (omega arith))));
         len = r .len ∙ h .len;
       }
 
-  pub fetched : (s : Stack) (d want : ℕ) (old marks new marks′ : List ℕ) → Fetching p s d want old marks new marks′ → lastMark marks′ d ≡ want →
-      Fetched p s d want old marks new marks′
-  fetched s d want old marks new marks′ h e = record { is = h .is; last = e; apart = h .apart; len = h .len }
+  pub fetched : (s : Stack) (d want spare : ℕ) (old marks new marks′ : List ℕ) → Fetching p s d want old marks new marks′ → lastMark marks′ d ≤ want →
+      want ≤ lastMark marks′ d + spare → Fetched p s d want spare old marks new marks′
+  fetched s d want spare old marks new marks′ h e n = record { is = h .is; not-past = e; near = n; apart = h .apart; len = h .len }

@@ -2,7 +2,7 @@
 -- before it, and the two are joined, so that the states from some number on are joined, and after the last turn all of them. A maximum that has risen
 -- to one state more is not below what meets there, and not above what bounds it and all that met before.
 use Prim.Native.Nat.{ℕ, _+_, _-_, _*_, _≤_, _<_}
-use mathlib.Core.Path.{_≡_, refl, sym, _∙_, subst}
+use mathlib.Core.Path.{_≡_, refl, sym, ap, _∙_, subst}
 use mathlib.Core.Bool.{false}
 use mathlib.Core.Logic.{inl, inr}
 use mathlib.Core.List.{List}
@@ -10,13 +10,13 @@ use native.Mathlib.Omega.{arith}
 use lib.ListN.{getD}
 use Rattle.basics.proofs.Numbers.{le-or-lt, rows-fit}
 use Rattle.states.specs.Runs.{Apart}
-use Rattle.plans.specs.Plans.{Sound, rowLo, rowHi, rowAt, rowSize, stateSize, keysSize, halfOf}
+use Rattle.plans.specs.Plans.{Sound, rowsIn, rowLo, rowHi, rowAt, rowSize, stateSize, keysSize, halfOf}
 use Rattle.states.specs.States.{Holds, LastHolds, OtherHolds, Advanced, Joined, StateJoined}
 use Rattle.sweeps.specs.Stacks.{KeysAre, Sequence, Stacked, StackFits, Fetched, lastMark}
 use Rattle.sweeps.specs.Sweeps.{Opposite, AllJoined, Swept, met}
 use Rattle.plans.specs.declared.plan.Plan.{Plan}
 use Rattle.sweeps.specs.declared.stack.Stack.{Stack}
-use Rattle.sweeps.proofs.StackLaws.{holds-apart, last-made, grown-here, fewer, made, stacked-apart, top-holds}
+use Rattle.sweeps.proofs.StackLaws.{holds-apart, last-made, chain-here, fewer, made, stacked-apart, top-holds}
 
 -- ---- the sizes of the two plans are the same
 
@@ -33,6 +33,10 @@ module _ (p o : Plan) (states : ℕ) (opposite : Opposite p o states) where
   pub same-half : halfOf o ≡ halfOf p
   unfolding halfOf
   same-half = rw (opposite .same-links, opposite .same-planes, opposite .same-across) refl
+
+  -- the last of the states below d + 1 has all rows
+  pub full-last : (d : ℕ) → d < states → rowsIn p (d + 1 - 1) ≡ p .rows
+  full-last d l = ap (rowsIn p) (let w : d + 1 - 1 ≡ d = omega arith in w) ∙ opposite .full d l
 
 -- ---- one state more is joined
 
@@ -163,7 +167,7 @@ module _ (p o : Plan) (states : ℕ) (sound : Sound p) (sound′ : Sound o) (opp
 
   module _ (e d ends : ℕ) (l : e < states) (is-d : d ≡ states - 1 - e) (work₀ best₀ work best work₁ work₂ best′ : List ℕ) (lo hi from : ℕ)
       (clear : keysSize p ≤ ends) (past-keys : keysSize p ≤ lo) (below : hi ≤ ends)
-      (s : SweptTo p o states e work₀ best₀ work best ends) (a : Advanced o e work work₁ ends ends) (c : Apart work₁ work₂ lo hi) where
+      (s : SweptTo p o states e work₀ best₀ work best ends) (a : Advanced o e (e + 1) work work₁ ends ends) (c : Apart work₁ work₂ lo hi) where
     same₁ : (q : ℕ) → q < keysSize p → getD work₁ q 0 ≡ getD work₀ q 0
     same₁ q h = a .apart .under q (omega arith) ∙ s .keys q h
 
@@ -177,44 +181,49 @@ module _ (p o : Plan) (states : ℕ) (sound : Sound p) (sound′ : Sound o) (opp
         (made o sound′ work work₁ keys states e ends ends g (omega (arith, opposite .few)) l a
         (keys-other work keys (keys-then work₀ work keys (s .keys) k)) v (s .is keys f g k u v .1))
 
-    pub swept-more : LastAt p states d work₀ work₂ from → Joined p d work₂ best best′ from ends → SweptTo p o states (e + 1) work₀ best₀ work₂ best′ ends
-    swept-more last j =
+    pub swept-more : (first : ℕ) → LastAt p states first work₀ work₂ from → Joined p first (d + 1) work₂ best best′ from ends →
+        SweptTo p o states (e + 1) work₀ best₀ work₂ best′ ends
+    swept-more first last j =
         record {
           keys = same₂;
           is = λ keys f g k u v.
               let there = other-made keys f g k u v in
               let before = subst (λ (n : ℕ). AllJoined p states n f g best₀ best) (let w : states - e ≡ d + 1 = omega arith in w) (s .is keys f g k u v .0) in
-              let this = grown-here p sound work₂ keys states d f (omega (arith, opposite .few)) (omega arith) (keys-then work₀ work₂ keys same₂ k) u in
+              let these = chain-here p sound work₂ keys states first (d + 1) f (omega (arith, opposite .few)) (omega arith) (keys-then work₀ work₂ keys same₂ k) u in
+              let this : d + 1 - 1 ≡ d = omega arith in
+              let joined = j .is f (g (states - 1 - d)) (last .is keys f k u) these
+              (subst (λ (n : ℕ). OtherHolds work₂ ends p n (g (states - 1 - d))) (sym this) (other-holds work₂ ends d e g l is-d there)) in
               let more = joined-more p states d f g best₀ best best′ (omega arith) before
-              (j .is (f (d - 1)) (f d) (g (states - 1 - d)) (last .is keys f k u) this (other-holds work₂ ends d e g l is-d there)) in (
+              (subst (λ (n : ℕ). StateJoined p n best best′ (f n) (g (states - 1 - d)) (p .rows)) this joined) in (
                 subst (λ (n : ℕ). AllJoined p states n f g best₀ best′) (let w : d ≡ states - (e + 1) = omega arith in w) more,
                 last-made o sound′ work₂ ends e g there,
               );
         }
 
-    -- the stack, with the wanted state on its top
-    stack-fetched : (marks marks′ : List ℕ) (k : Stack) (depth : ℕ) → k .base + k .depth * stateSize p ≤ ends →
-        StackKept p states work₀ work marks (k .base) (k .depth) → Fetched p k depth d work₁ marks work₂ marks′ → StackKept p states work₀ work₂ marks′ (k .base) depth
-    stack-fetched marks marks′ k depth room h f =
+    -- the stack, with the wanted state on its top or near
+    stack-fetched : (marks marks′ : List ℕ) (k : Stack) (depth spare : ℕ) → k .base + k .depth * stateSize p ≤ ends →
+        StackKept p states work₀ work marks (k .base) (k .depth) → Fetched p k depth d spare work₁ marks work₂ marks′ →
+        StackKept p states work₀ work₂ marks′ (k .base) depth
+    stack-fetched marks marks′ k depth spare room h f =
         record {
           is = λ keys g q u.
               f .is keys g (keys-then work₀ work₁ keys same₁ q) (fewer p sound keys states d g (omega arith) u)
               (stacked-apart p sound work work₁ marks (k .base) (k .depth) ends (ends + stateSize o) g (a .apart) room (h .is keys g q u));
         }
 
-    top-at : (marks : List ℕ) (base depth : ℕ) → StackKept p states work₀ work₂ marks base depth → lastMark marks depth ≡ d →
-        from ≡ base + (depth - 1) * stateSize p → LastAt p states d work₀ work₂ from
-    top-at marks base depth h is-last is-from =
-        record { is = λ keys f k u. top-holds p sound work₂ marks base depth d from f (h .is keys f k u) (sym is-last) is-from }
+    top-at : (marks : List ℕ) (base depth first : ℕ) → StackKept p states work₀ work₂ marks base depth → first ≡ lastMark marks depth →
+        from ≡ base + (depth - 1) * stateSize p → LastAt p states first work₀ work₂ from
+    top-at marks base depth first h is-first is-from =
+        record { is = λ keys f k u. top-holds p sound work₂ marks base depth first from f (h .is keys f k u) is-first is-from }
 
   -- one turn of a sweep with a stack: the sweep is one state further, and the stack that came back is one of this side's states
-  pub linked-turn : (e d places from : ℕ) (k r : Stack) (work₀ best₀ work best work₁ work₂ best′ marks marks′ : List ℕ) → e < states → d ≡ states - 1 - e →
-      StackAt p places k → r .base ≡ k .base → from ≡ r .base + (r .depth - 1) * stateSize p →
+  pub linked-turn : (e d places from first spare : ℕ) (k r : Stack) (work₀ best₀ work best work₁ work₂ best′ marks marks′ : List ℕ) → e < states → d ≡ states - 1 - e →
+      StackAt p places k → r .base ≡ k .base → from ≡ r .base + (r .depth - 1) * stateSize p → first ≡ lastMark marks′ (r .depth) →
       SweptTo p o states e work₀ best₀ work best (keysSize p + places * stateSize p) → StackKept p states work₀ work marks (k .base) (k .depth) →
-      Advanced o e work work₁ (keysSize p + places * stateSize p) (keysSize p + places * stateSize p) → Fetched p k (r .depth) d work₁ marks work₂ marks′ →
-      Joined p d work₂ best best′ from (keysSize p + places * stateSize p) →
+      Advanced o e (e + 1) work work₁ (keysSize p + places * stateSize p) (keysSize p + places * stateSize p) →
+      Fetched p k (r .depth) d spare work₁ marks work₂ marks′ → Joined p first (d + 1) work₂ best best′ from (keysSize p + places * stateSize p) →
       SweptTo p o states (e + 1) work₀ best₀ work₂ best′ (keysSize p + places * stateSize p) × StackKept p states work₀ work₂ marks′ (r .base) (r .depth)
-  linked-turn e d places from k r work₀ best₀ work best work₁ work₂ best′ marks marks′ l is-d at same is-from s h a f j =
+  linked-turn e d places from first spare k r work₀ best₀ work best work₁ work₂ best′ marks marks′ l is-d at same is-from is-first s h a f j =
       let ends = keysSize p + places * stateSize p in
       let top = k .base + k .places * stateSize p in
       let clear : keysSize p ≤ ends = omega arith in
@@ -223,9 +232,9 @@ module _ (p o : Plan) (states : ℕ) (sound : Sound p) (sound′ : Sound o) (opp
       let room : k .base + k .depth * stateSize p ≤ ends = omega (arith, at .is-base, rows-fit (k .depth) 0 places (stateSize p) (omega (arith, at .deep))) in
       let kept = subst (λ (n : ℕ). StackKept p states work₀ work₂ marks′ n (r .depth)) (sym same)
       (stack-fetched e d ends l is-d work₀ best₀ work best work₁ work₂ best′ (k .base) top from clear past-keys below s a (f .apart)
-      marks marks′ k (r .depth) room h f) in
+      marks marks′ k (r .depth) spare room h f) in
       let last = top-at e d ends l is-d work₀ best₀ work best work₁ work₂ best′ (k .base) top from clear past-keys below s a (f .apart)
-      marks′ (r .base) (r .depth) kept (f .last) is-from in (
-        swept-more e d ends l is-d work₀ best₀ work best work₁ work₂ best′ (k .base) top from clear past-keys below s a (f .apart) last j,
+      marks′ (r .base) (r .depth) first kept is-first is-from in (
+        swept-more e d ends l is-d work₀ best₀ work best work₁ work₂ best′ (k .base) top from clear past-keys below s a (f .apart) first last j,
         kept,
       )

@@ -52,7 +52,7 @@ roomFor p = keysSize p + cond (p .linked) 2 1 * stateSize p
 -- both plans can be followed with what a sweep holds, and work and best have so many numbers as they ask for
 unfoldable pub sweepable : Plan → Reach → (work best : ℕ) → Bool
 sweepable p reach work best =
-    canHold p 18612 1032 && wellFormed (otherEnd p reach) && leb (statesOf p) 1024 && leb (roomFor p) work && leb (keysSize p) best
+    canHold p 23940 1032 && wellFormed (otherEnd p reach) && leb (statesOf p) 1024 && leb (roomFor p) work && leb (keysSize p) best
 
 -- ---- the stack
 
@@ -66,8 +66,8 @@ stackFits p s work marks =
     && leb (s .base + s .places * stateSize p) work
     && leb (s .places) marks
 
-unfoldable pub fetches : Plan → Stack → ℕ → (work marks held below : ℕ) → Bool
-fetches p s want work marks held below = canHold p held below && stackFits p s work marks && leb want 1024
+unfoldable pub fetches : Plan → Stack → (want spare work marks held below : ℕ) → Bool
+fetches p s want spare work marks held below = canHold p held below && stackFits p s work marks && leb want 1024 && leb spare 1024
 
 -- where the last state of a stack begins, where the stack does if it is empty; 0 where it is none
 unfoldable pub hasTop : Plan → Stack → Bool

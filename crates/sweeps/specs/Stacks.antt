@@ -45,17 +45,18 @@ pub record RunOn (p : Plan) (first past : ℕ) (old new : List ℕ) (from to : �
       Holds new to p (past - 1) (f (past - 1))
   pub apart : Apart old new to (to + stateSize p)
 
--- a stack of one state more, of the first `want` states of a sweep, whatever they are
-pub record Pushed (p : Plan) (base depth want : ℕ) (old marks new marks′ : List ℕ) : Type 0 where
-  pub is : (keys : ℕ → ℕ) (f : ℕ → ℕ → ℕ → ℕ → ℕ) → KeysAre old p keys → Sequence p keys want f → Stacked old marks base p f depth →
+-- a stack of one state more, the last of the first `past` states of a sweep, whatever they are
+pub record Pushed (p : Plan) (base depth past : ℕ) (old marks new marks′ : List ℕ) : Type 0 where
+  pub is : (keys : ℕ → ℕ) (f : ℕ → ℕ → ℕ → ℕ → ℕ) → KeysAre old p keys → Sequence p keys past f → Stacked old marks base p f depth →
       Stacked new marks′ base p f (depth + 1)
   pub apart : Apart old new (base + depth * stateSize p) (base + (depth + 1) * stateSize p)
   pub len : length marks′ ≡ length marks
 
--- a stack whose last state is the one before number `want`
-pub record Fetched (p : Plan) (s : Stack) (depth want : ℕ) (old marks new marks′ : List ℕ) : Type 0 where
+-- a stack with which so many states are made as are wanted, or up to `spare` fewer
+pub record Fetched (p : Plan) (s : Stack) (depth want spare : ℕ) (old marks new marks′ : List ℕ) : Type 0 where
   pub is : (keys : ℕ → ℕ) (f : ℕ → ℕ → ℕ → ℕ → ℕ) → KeysAre old p keys → Sequence p keys want f → Stacked old marks (s .base) p f (s .depth) →
       Stacked new marks′ (s .base) p f depth
-  pub last : lastMark marks′ depth ≡ want
+  pub not-past : lastMark marks′ depth ≤ want
+  pub near : want ≤ lastMark marks′ depth + spare
   pub apart : Apart old new (s .base) (s .base + s .places * stateSize p)
   pub len : length marks′ ≡ length marks

@@ -96,7 +96,7 @@ pub fn sweep(best: &mut [u16], work: &mut [u16], plan: Plan, reach: Reach) -> bo
     ensures { λ r. ⌜ r ≡ sweepable plan reach (length (now (work .entry))) (length (now (best .entry))) ⌝ }
     ensures { λ r. ⌜ either r (Swept plan (otherEnd plan reach) (statesOf plan) (now (work .entry)) (now (best .entry)) (now (best .exit))) ((now (best .exit) ≡ now (best .entry)) × (now (work .exit) ≡ now (work .entry))) ⌝ }
 {
-    if !states::can_hold(plan, 18612, 1032) {
+    if !states::can_hold(plan, 23940, 1032) {
         return false;
     }
     let other = other_end(plan, reach);
@@ -143,8 +143,8 @@ fn stack_fits(plan: Plan, stack: Stack, work: usize, marks: usize) -> bool
     stack.places <= marks
 }
 
-// A stack whose last state is the one of number `want` less one; an empty one where that is none. Where
-// something does not fit, the stack as it came.
+// A stack with which so many states are made as are wanted, or up to `spare` fewer; an empty one where none
+// are. Where something does not fit, the stack as it came.
 pub fn fetch(
     work: &mut [u16],
     marks: &mut [usize],
@@ -153,8 +153,9 @@ pub fn fetch(
     plan: Plan,
     stack: Stack,
     want: usize,
+    spare: usize,
 ) -> Stack
-    ensures { λ r. ⌜ either (fetches plan stack want (length (now (work .entry))) (length (now (marks .entry))) (length (now (held .entry))) (length (now (below .entry)))) (((r .base ≡ stack .base) × (r .places ≡ stack .places) × (r .depth ≤ stack .places)) × Fetched plan stack (r .depth) want (now (work .entry)) (now (marks .entry)) (now (work .exit)) (now (marks .exit))) ((r ≡ stack) × (now (work .exit) ≡ now (work .entry)) × (now (marks .exit) ≡ now (marks .entry))) ⌝ }
+    ensures { λ r. ⌜ either (fetches plan stack want spare (length (now (work .entry))) (length (now (marks .entry))) (length (now (held .entry))) (length (now (below .entry)))) (((r .base ≡ stack .base) × (r .places ≡ stack .places) × (r .depth ≤ stack .places)) × Fetched plan stack (r .depth) want spare (now (work .entry)) (now (marks .entry)) (now (work .exit)) (now (marks .exit))) ((r ≡ stack) × (now (work .exit) ≡ now (work .entry)) × (now (marks .exit) ≡ now (marks .entry))) ⌝ }
     ensures { λ _. ⌜ (length (now (held .exit)) ≡ length (now (held .entry))) × (length (now (below .exit)) ≡ length (now (below .entry))) ⌝ }
 {
     if !states::can_hold(plan, held.len(), below.len()) {
@@ -166,7 +167,10 @@ pub fn fetch(
     if want > 1024 {
         return stack;
     }
-    stack::fetch(work, marks, held, below, plan, stack, want)
+    if spare > 1024 {
+        return stack;
+    }
+    stack::fetch(work, marks, held, below, plan, stack, want, spare)
 }
 
 // Where the last state of a stack begins; where the stack does, if it is empty; 0 where it is none.

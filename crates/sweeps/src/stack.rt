@@ -1,16 +1,18 @@
 // States are wanted from the last back, and a state cannot be undone. So a stack of earlier states is
 // kept in the work buffer, and a state is made again from the nearest one before it; the fewer places
-// are left, the fewer states are kept on the way.
+// are left, the fewer states are kept on the way. The last `spare` states before the wanted one need not be
+// kept, where they can be made at once with it.
 ghost use mathlib.Core.Path.{_≡_};
 ghost use mathlib.Core.Bool.{true};
 ghost use mathlib.Core.Logic.{_⊎_};
 ghost use Prim.Native.Nat.{ℕ, _+_, _-_, _*_, _≤_, _<_, min};
 ghost use lib.ListN.{length, getD};
-ghost use Rattle.plans.specs.Plans.{stateSize, keysSize, halfOf};
+ghost use Rattle.plans.specs.Plans.{stateSize, keysSize, halfOf, halfWith};
 ghost use Rattle.plans.specs.Forms.{wellFormed};
 ghost use Rattle.sweeps.specs.Stacks.{StackFits, RunOn, Pushed, Fetched, lastMark};
 use crate::taken::advance;
 use plans::Plan;
+use states::Stretch;
 
 // Where the stack begins in the work buffer, for how many states it has room, and how many it has.
 pub struct Stack {
@@ -19,18 +21,22 @@ pub struct Stack {
     pub depth: usize,
 }
 
+// The lesser of two.
+fn lesser(a: usize, b: usize) -> usize
+    ensures { λ r. ⌜ r ≡ min a b ⌝ }
+{
+    if a < b { a } else { b }
+}
+
 // How many states on the next one is kept, on the way to one `far` states on, with this many places
 // left. With b = C(places + t - 1, places), the greatest binomial coefficient of these that is not above
 // `far`, every state is made at most t + 1 times (Griewank and Walther's schedule) where b states are left
 // out here and no more than the same of t - 1 and of one place less remain after them. Any number from 1
 // to `far` would do; this one is the best.
 fn stride(places: usize, far: usize) -> usize
-    requires { ⌜ (1 ≤ places) × (places ≤ 64) × (1 ≤ far) × (far ≤ 1024) ⌝ }
-    ensures { λ r. ⌜ (1 ≤ r) × (r ≤ far) × (places ≡ 1 → r ≡ far) ⌝ }
+    requires { ⌜ (1 ≤ places) × (places ≤ 65) × (1 ≤ far) × (far ≤ 1024) ⌝ }
+    ensures { λ r. ⌜ (1 ≤ r) × (r ≤ far) ⌝ }
 {
-    if places == 1 {
-        return far;
-    }
     let mut last = 0;
     let mut c = 1;
     let mut t = 1;
@@ -46,27 +52,65 @@ fn stride(places: usize, far: usize) -> usize
     c
 }
 
-// The lesser of two.
-fn lesser(a: usize, b: usize) -> usize
-    ensures { λ r. ⌜ r ≡ min a b ⌝ }
+// The same where the last `spare` states need not be kept, which is like a place more. After the last place
+// no more than these may remain.
+fn stride_with(places: usize, far: usize, spare: usize) -> usize
+    requires { ⌜ (1 ≤ places) × (places ≤ 64) × (1 ≤ far) × (far ≤ 1024) × (spare ≤ 1024) ⌝ }
+    ensures { λ r. ⌜ (1 ≤ r) × (r ≤ far) × (places ≡ 1 → far ≤ r + spare) ⌝ }
 {
-    if a < b { a } else { b }
+    if spare == 0 {
+        return if places == 1 {
+            far
+        } else {
+            stride(places, far)
+        };
+    }
+    let next = stride(places + 1, far);
+    if places > 1 {
+        return next;
+    }
+    if next + spare < far {
+        far - spare
+    } else {
+        next
+    }
 }
 
-// The states later than `want` are dropped; so is the last one of a full stack that is earlier, to make
+// How many states are made with the next one that is kept on the way to `want`; those that are made
+// already where none is to be kept.
+fn next_mark(places: usize, made: usize, want: usize, spare: usize) -> usize
+    requires { ⌜ (places ≤ 64) × (made ≤ want) × (want ≤ 1024) × (spare ≤ 1024) × (places ≡ 0 → want ≤ made + spare) ⌝ }
+    ensures { λ r. ⌜ (made ≤ r) × (r ≤ want) × (r ≡ made → want ≤ made + spare) × (made < r → 1 ≤ places) × (made < r → places ≡ 1 → want ≤ r + spare) ⌝ }
+{
+    if made >= want {
+        return made;
+    }
+    if places == 0 {
+        return made;
+    }
+    let next = made + stride_with(places, want - made, spare);
+    if next < want {
+        return next;
+    }
+    if want <= made + spare { made } else { next }
+}
+
+// The states later than `want` are dropped; so is the last one of a full stack that is too early, to make
 // room for another.
-fn drop_later(marks: &[usize], places: usize, depth: usize, want: usize) -> usize
-    requires { ⌜ (1 ≤ places) × (depth ≤ places) × (depth ≤ length (now marks)) ⌝ }
-    ensures { λ r. ⌜ (r ≤ depth) × (lastMark (now (marks .entry)) r ≤ want) × (r ≡ places → lastMark (now (marks .entry)) r ≡ want) ⌝ }
+fn drop_later(marks: &[usize], places: usize, depth: usize, want: usize, spare: usize) -> usize
+    requires { ⌜ (1 ≤ places) × (depth ≤ places) × (depth ≤ length (now marks)) × (spare ≤ 1024) ⌝ }
+    ensures { λ r. ⌜ (r ≤ depth) × (lastMark (now (marks .entry)) r ≤ want) × (r ≡ places → want ≤ lastMark (now (marks .entry)) r + spare) ⌝ }
 {
     let mut d = depth;
     while d > 0 {
         let last = marks[d - 1];
-        if last == want {
-            return d;
-        }
-        if last < want && d < places {
-            return d;
+        if last <= want {
+            if d < places {
+                return d;
+            }
+            if want - last <= spare {
+                return d;
+            }
         }
         d -= 1;
     }
@@ -74,7 +118,7 @@ fn drop_later(marks: &[usize], places: usize, depth: usize, want: usize) -> usiz
 }
 
 // How many states are made with the last one of the stack; none where the stack is empty.
-fn last_mark(marks: &[usize], depth: usize) -> usize
+pub(crate) fn last_mark(marks: &[usize], depth: usize) -> usize
     requires { ⌜ depth ≤ length (now marks) ⌝ }
     ensures { λ r. ⌜ r ≡ lastMark (now (marks .entry)) depth ⌝ }
 {
@@ -84,7 +128,19 @@ fn last_mark(marks: &[usize], depth: usize) -> usize
     marks[depth - 1]
 }
 
-// The states from number `first` below `past` one after the other, the first of them from the one at
+// How many states are made at once with so many held numbers, up to six: more bring nothing, since the held
+// rows no longer lie near the processor. States that are not linked have nothing in common.
+pub(crate) fn at_once(plan: Plan, held: usize) -> usize
+    requires { ⌜ (wellFormed plan ≡ true) × (halfOf plan + halfOf plan ≤ held) ⌝ }
+    ensures { λ r. ⌜ (1 ≤ r) × (r ≤ 6) × (halfWith plan (r - 1) + halfWith plan (r - 1) ≤ held) ⌝ }
+{
+    if !plan.linked {
+        return 1;
+    }
+    lesser(held / 2 / (plan.planes * (plan.across + 10)) - 1, 6)
+}
+
+// The states from number `first` below `past`, as many at once as can be, the first of them from the one at
 // `from`, the others in the place of the one before; the last of them stays at `to`.
 fn run_on(
     work: &mut [u16],
@@ -103,11 +159,20 @@ fn run_on(
     ensures { λ _. ⌜ RunOn plan first past (now (work .entry)) (now (work .exit)) from to ⌝ }
     ensures { λ _. ⌜ (length (now (held .exit)) ≡ length (now (held .entry))) × (length (now (below .exit)) ≡ length (now (below .entry))) ⌝ }
 {
-    advance(work, held, below, plan, first, from, to);
-    let mut e = first + 1;
+    let count = at_once(plan, held.len());
+    let mut e = lesser(first + count, past);
+    let start = Stretch {
+        first: first,
+        past: e,
+    };
+    advance(work, held, below, plan, start, from, to);
     while e < past {
-        advance(work, held, below, plan, e, to, to);
-        e += 1;
+        let next = Stretch {
+            first: e,
+            past: lesser(e + count, past),
+        };
+        advance(work, held, below, plan, next, to, to);
+        e = next.past;
     }
 }
 
@@ -122,7 +187,7 @@ pub(crate) fn top_of(plan: Plan, stack: Stack) -> usize
     stack.base + (stack.depth - 1) * (plan.rows * (plan.planes * plan.across))
 }
 
-// One state more on the stack, towards the one of number `want` less one.
+// One state more on the stack, the one of number `past` less one.
 fn push(
     work: &mut [u16],
     marks: &mut [usize],
@@ -130,18 +195,17 @@ fn push(
     below: &mut [u16],
     plan: Plan,
     stack: Stack,
-    want: usize,
+    past: usize,
 )
     requires { ⌜ wellFormed plan ≡ true ⌝ }
-    requires { ⌜ (StackFits plan stack (length (now work)) (length (now marks))) × (stack .depth < stack .places) × (want ≤ 1024) ⌝ }
-    requires { ⌜ lastMark (now marks) (stack .depth) < want ⌝ }
+    requires { ⌜ (StackFits plan stack (length (now work)) (length (now marks))) × (stack .depth < stack .places) × (past ≤ 1024) ⌝ }
+    requires { ⌜ lastMark (now marks) (stack .depth) < past ⌝ }
     requires { ⌜ (halfOf plan + halfOf plan ≤ length (now held)) × (length (now held) ≤ 40000) × (plan .across + 7 ≤ length (now below)) ⌝ }
-    ensures { λ _. ⌜ Pushed plan (stack .base) (stack .depth) want (now (work .entry)) (now (marks .entry)) (now (work .exit)) (now (marks .exit)) ⌝ }
-    ensures { λ _. ⌜ (lastMark (now (marks .exit)) (stack .depth + 1) ≤ want) × (stack .depth + 1 ≡ stack .places → lastMark (now (marks .exit)) (stack .depth + 1) ≡ want) × (lastMark (now (marks .entry)) (stack .depth) < lastMark (now (marks .exit)) (stack .depth + 1)) ⌝ }
+    ensures { λ _. ⌜ Pushed plan (stack .base) (stack .depth) past (now (work .entry)) (now (marks .entry)) (now (work .exit)) (now (marks .exit)) ⌝ }
+    ensures { λ _. ⌜ lastMark (now (marks .exit)) (stack .depth + 1) ≡ past ⌝ }
     ensures { λ _. ⌜ (length (now (held .exit)) ≡ length (now (held .entry))) × (length (now (below .exit)) ≡ length (now (below .entry))) ⌝ }
 {
     let first = last_mark(marks, stack.depth);
-    let past = first + stride(stack.places - stack.depth, want - first);
     let to = stack.base + stack.depth * (plan.rows * (plan.planes * plan.across));
     let from = top_of(plan, stack);
     run_on(work, held, below, plan, first, past, from, to);
@@ -149,7 +213,7 @@ fn push(
     marks[depth] = past;
 }
 
-// A stack whose last state is the one of number `want` less one; an empty one where that is none.
+// A stack with which so many states are made as are wanted, or up to `spare` fewer.
 pub(crate) fn fetch(
     work: &mut [u16],
     marks: &mut [usize],
@@ -158,23 +222,29 @@ pub(crate) fn fetch(
     plan: Plan,
     stack: Stack,
     want: usize,
+    spare: usize,
 ) -> Stack
     requires { ⌜ wellFormed plan ≡ true ⌝ }
-    requires { ⌜ (StackFits plan stack (length (now work)) (length (now marks))) × (want ≤ 1024) ⌝ }
+    requires { ⌜ (StackFits plan stack (length (now work)) (length (now marks))) × (want ≤ 1024) × (spare ≤ 1024) ⌝ }
     requires { ⌜ (halfOf plan + halfOf plan ≤ length (now held)) × (length (now held) ≤ 40000) × (plan .across + 7 ≤ length (now below)) ⌝ }
     ensures { λ r. ⌜ (r .base ≡ stack .base) × (r .places ≡ stack .places) × (r .depth ≤ stack .places) ⌝ }
-    ensures { λ r. ⌜ Fetched plan stack (r .depth) want (now (work .entry)) (now (marks .entry)) (now (work .exit)) (now (marks .exit)) ⌝ }
+    ensures { λ r. ⌜ Fetched plan stack (r .depth) want spare (now (work .entry)) (now (marks .entry)) (now (work .exit)) (now (marks .exit)) ⌝ }
     ensures { λ _. ⌜ (length (now (held .exit)) ≡ length (now (held .entry))) × (length (now (below .exit)) ≡ length (now (below .entry))) ⌝ }
 {
-    let mut depth = drop_later(marks, stack.places, stack.depth, want);
-    while last_mark(marks, depth) < want {
+    let places = stack.places;
+    let mut depth = drop_later(marks, places, stack.depth, want, spare);
+    let mut made = last_mark(marks, depth);
+    let mut next = next_mark(places - depth, made, want, spare);
+    while made < next {
         let so_far = Stack {
             base: stack.base,
-            places: stack.places,
+            places: places,
             depth: depth,
         };
-        push(work, marks, held, below, plan, so_far, want);
+        push(work, marks, held, below, plan, so_far, next);
         depth += 1;
+        made = next;
+        next = next_mark(places - depth, made, want, spare);
     }
     Stack {
         base: stack.base,

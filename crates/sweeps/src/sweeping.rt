@@ -9,11 +9,14 @@ ghost use Rattle.plans.specs.Plans.{stateSize, keysSize, halfOf};
 ghost use Rattle.plans.specs.Forms.{wellFormed};
 ghost use Rattle.sweeps.specs.Sweeps.{Opposite, Swept};
 use crate::stack::Stack;
+use crate::stack::at_once;
 use crate::stack::fetch;
+use crate::stack::last_mark;
 use crate::stack::top_of;
 use crate::taken::advance;
 use crate::taken::advance_joined;
 use plans::Plan;
+use states::Stretch;
 
 // How many states find room, but for one, up to 64.
 fn states_fitting(room: usize, size: usize) -> usize
@@ -46,9 +49,17 @@ fn sweep_apart(
     let base = plan.lines * plan.across;
     let mut e = 0;
     while e < states {
-        advance(work, held, below, other, e, base, base);
+        let theirs = Stretch {
+            first: e,
+            past: e + 1,
+        };
+        advance(work, held, below, other, theirs, base, base);
         let d = states - 1 - e;
-        advance_joined(best, work, held, below, plan, d, base, base);
+        let ours = Stretch {
+            first: d,
+            past: d + 1,
+        };
+        advance_joined(best, work, held, below, plan, ours, base, base);
         e += 1;
     }
 }
@@ -73,6 +84,7 @@ fn sweep_linked(
     let size = plan.rows * (plan.planes * plan.across);
     let places = states_fitting(work.len() - base, size);
     let ends = base + places * size;
+    let spare = at_once(plan, held.len()) - 1;
     let mut marks = [0usize; 64];
     let mut stack = Stack {
         base: base,
@@ -81,11 +93,19 @@ fn sweep_linked(
     };
     let mut e = 0;
     while e < states {
-        advance(work, held, below, other, e, ends, ends);
+        let theirs = Stretch {
+            first: e,
+            past: e + 1,
+        };
+        advance(work, held, below, other, theirs, ends, ends);
         let d = states - 1 - e;
-        stack = fetch(work, &mut marks, held, below, plan, stack, d);
+        stack = fetch(work, &mut marks, held, below, plan, stack, d, spare);
         let from = top_of(plan, stack);
-        advance_joined(best, work, held, below, plan, d, from, ends);
+        let ours = Stretch {
+            first: last_mark(&marks, stack.depth),
+            past: d + 1,
+        };
+        advance_joined(best, work, held, below, plan, ours, from, ends);
         e += 1;
     }
 }
@@ -113,15 +133,16 @@ fn sweep(
     }
 }
 
-// The same with rows that are held on the stack of the call: 39 KB.
+// The same with rows that are held on the stack of the call: 50 KB, so that four states are made at once
+// where a row has 256 pixels and nine planes.
 pub(crate) fn sweep_held(best: &mut [u16], work: &mut [u16], plan: Plan, other: Plan, states: usize)
     requires { ⌜ (wellFormed plan ≡ true) × (wellFormed other ≡ true) ⌝ }
     requires { ⌜ Opposite plan other states ⌝ }
     requires { ⌜ (keysSize plan + stateSize plan ≤ length (now work)) × (plan .linked ≡ true → keysSize plan + 2 * stateSize plan ≤ length (now work)) × (keysSize plan ≤ length (now best)) ⌝ }
-    requires { ⌜ (halfOf plan + halfOf plan ≤ 18612) × (plan .across ≤ 1024) ⌝ }
+    requires { ⌜ (halfOf plan + halfOf plan ≤ 23940) × (plan .across ≤ 1024) ⌝ }
     ensures { λ _. ⌜ Swept plan other states (now (work .entry)) (now (best .entry)) (now (best .exit)) ⌝ }
 {
-    let mut held = [0u16; 18612];
+    let mut held = [0u16; 23940];
     let mut below = [0u16; 1032];
     sweep(best, work, &mut held, &mut below, plan, other, states);
 }

@@ -296,7 +296,7 @@ side-none p slack states to base work notes =
 
 pub side-more :
     (p : Plan) → Sound p → (slack states to base e : ℕ) (work₀ work work′ notes₀ notes notes′ : List ℕ) → e < 65536 → e < states → keysSize p ≤ base →
-    SideNoted p slack states to base e work₀ work notes₀ notes → Advanced p e work work′ base base →
+    SideNoted p slack states to base e work₀ work notes₀ notes → Advanced p e (e + 1) work work′ base base →
     Lifted (FromState p (endedIn work′ slack base p e) to e (rowsIn p e)) notes notes′ → SideNoted p slack states to base (e + 1) work₀ work′ notes₀ notes′
 side-more p sound slack states to base e work₀ work work′ notes₀ notes notes′ few below clear d a n =
     let both = apart-then work₀ work work′ base (base + stateSize p) (d .apart) (a .apart) in

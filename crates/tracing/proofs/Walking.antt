@@ -78,7 +78,7 @@ module _ (s : Scan) (b : Bool) (plate : List ℤ) (x : ℕ) (r : Sight) (sound :
 
   module _ (work marks work′ marks′ : List ℕ) (stack new : Stack) (want : ℕ) (few : want ≤ r .states) (kept : Kept s b plate x r work marks stack)
       (same-base : new .base ≡ stack .base) (same-places : new .places ≡ stack .places) (deep : new .depth ≤ stack .places)
-      (fetched : Fetched (r .plan) stack (new .depth) want work marks work′ marks′) where
+      (fetched : Fetched (r .plan) stack (new .depth) want 0 work marks work′ marks′) where
     stacked : Stacked work′ marks′ (stack .base) (r .plan) (seenAt s b plate x r) (new .depth)
     stacked =
         fetched .is (λ q. keyOf s plate (placeKept (r .frame) (r .plan .ranked) q)) (seenAt s b plate x r) (kept .keys)
@@ -107,7 +107,7 @@ module _ (s : Scan) (b : Bool) (plate : List ℤ) (x : ℕ) (r : Sight) (sound :
       top-same = is-top ∙ rw same-base
 
       pub top-held : 1 ≤ want → Holds work′ top (r .plan) (want - 1) (seenAt s b plate x r (want - 1))
-      top-held some = rw top-same (top-state work′ marks′ (stack .base) (r .plan) (seenAt s b plate x r) (new .depth) want stacked (fetched .last) some)
+      top-held some = rw top-same (top-state work′ marks′ (stack .base) (r .plan) (seenAt s b plate x r) (new .depth) want stacked (omega (arith, fetched .not-past, fetched .near)) some)
 
       pub top-within : top + stateSize (r .plan) ≤ length work′
       top-within =

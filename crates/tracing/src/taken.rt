@@ -10,6 +10,7 @@ ghost use Rattle.states.specs.States.{Advanced};
 ghost use Rattle.sweeps.specs.Stacks.{StackFits, Fetched};
 use plans::Plan;
 use plans::Row;
+use states::Stretch;
 use sweeps::Stack;
 
 // Row m of state e.
@@ -41,10 +42,14 @@ pub(crate) fn advance(
     requires { ⌜ wellFormed plan ≡ true ⌝ }
     requires { ⌜ (e < 65536) × (keysSize plan ≤ at) × (at + stateSize plan ≤ length (now work)) ⌝ }
     requires { ⌜ (halfOf plan + halfOf plan ≤ length (now held)) × (length (now held) ≤ 40000) × (plan .across + 7 ≤ length (now below)) ⌝ }
-    ensures { λ _. ⌜ Advanced plan e (now (work .entry)) (now (work .exit)) at at ⌝ }
+    ensures { λ _. ⌜ Advanced plan e (e + 1) (now (work .entry)) (now (work .exit)) at at ⌝ }
     ensures { λ _. ⌜ (length (now (held .exit)) ≡ length (now (held .entry))) × (length (now (below .exit)) ≡ length (now (below .entry))) ⌝ }
 {
-    states::advance(work, held, below, plan, e, at, at);
+    let this = Stretch {
+        first: e,
+        past: e + 1,
+    };
+    states::advance(work, held, below, plan, this, at, at);
 }
 
 // A stack whose last state is the one of number `want` less one.
@@ -61,10 +66,10 @@ pub(crate) fn fetch(
     requires { ⌜ (StackFits plan stack (length (now work)) (length (now marks))) × (want ≤ 1024) ⌝ }
     requires { ⌜ (halfOf plan + halfOf plan ≤ length (now held)) × (length (now held) ≤ 40000) × (plan .across + 7 ≤ length (now below)) ⌝ }
     ensures { λ r. ⌜ (r .base ≡ stack .base) × (r .places ≡ stack .places) × (r .depth ≤ stack .places) ⌝ }
-    ensures { λ r. ⌜ Fetched plan stack (r .depth) want (now (work .entry)) (now (marks .entry)) (now (work .exit)) (now (marks .exit)) ⌝ }
+    ensures { λ r. ⌜ Fetched plan stack (r .depth) want 0 (now (work .entry)) (now (marks .entry)) (now (work .exit)) (now (marks .exit)) ⌝ }
     ensures { λ _. ⌜ (length (now (held .exit)) ≡ length (now (held .entry))) × (length (now (below .exit)) ≡ length (now (below .entry))) ⌝ }
 {
-    sweeps::fetch(work, marks, held, below, plan, stack, want)
+    sweeps::fetch(work, marks, held, below, plan, stack, want, 0)
 }
 
 // Where its last state begins.

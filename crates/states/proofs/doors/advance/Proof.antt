@@ -1,4 +1,4 @@
--- `advance` meets its contract: what was judged is what `make_state` asks for.
+-- `advance` meets its contract: what was judged is what `make_states` asks for.
 use borrow.Author.Needs.{needs}
 use mathlib.Core.Path.{sym, refl, _∙_}
 use borrow.Author.Tests.{not-true, not-false}
@@ -13,12 +13,15 @@ can-advance-requires c κs = search needs
 returns : tie.Need-returns
 returns c = (sym (sym (c .before .can-advance .ensures) ∙ not-true _ (c .if1 .taken)), (refl, (refl, refl)))
 
-make-state-requires : tie.Need-make-state-requires
-make-state-requires c κs =
+make-states-requires : tie.Need-make-states-requires
+make-states-requires c κs =
     let l = c .before .before .before in
     let a = advances-facts _ _ _ _ _ _ _ (sym (l .before .can-advance .ensures) ∙ not-false _ (l .if1 .left)) in (
-      well-formed-sound _ (a .form),
-      ((a .near, a .source .0, a .target .0, a .source .1, a .target .1), (a .apart, (a .rows .twice, a .rows .few, a .rows .plane))),
+      (well-formed-sound _ (a .made .form), a .made .some, a .made .near),
+      (
+        (a .source .0, a .target .0, a .source .1, a .target .1),
+        (a .apart, (a .made .rows .twice, a .made .rows .few, a .made .rows .plane)),
+      ),
     )
 
 same-length : tie.Need-same-length
@@ -33,7 +36,7 @@ same-length-3 c = search needs
 returns-2 : tie.Need-returns-2
 returns-2 c =
     let m = c .before .before .before .before .before .before in
-    let l = m .before .before .before .before in (sym (sym (l .before .can-advance .ensures) ∙ not-false _ (l .if1 .left)), m .make-state .ensures)
+    let l = m .before .before .before .before in (sym (sym (l .before .can-advance .ensures) ∙ not-false _ (l .if1 .left)), m .make-states .ensures)
 
 pub advance-spec : {M : Type 1} → statement M
-advance-spec = tie.close (tie.spec can-advance-requires returns make-state-requires same-length same-length-2 same-length-3 returns-2)
+advance-spec = tie.close (tie.spec can-advance-requires returns make-states-requires same-length same-length-2 same-length-3 returns-2)

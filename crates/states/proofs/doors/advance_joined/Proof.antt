@@ -17,10 +17,10 @@ make-joined-requires : tie.Need-make-joined-requires
 make-joined-requires c κs =
     let l = c .before .before .before in
     let a = joins-facts _ _ _ _ _ _ _ _ (sym (l .before .can-join .ensures) ∙ not-false _ (l .if1 .left)) in (
-      well-formed-sound _ (a .form),
+      (well-formed-sound _ (a .made .form), a .made .some, a .made .near),
       (
-        (a .near, a .full, a .result),
-        ((a .source .0, a .source .1, a .other .1), (a .rows .twice, a .rows .few, a .rows .plane)),
+        (a .full, a .result),
+        ((a .source .0, a .source .1, a .other .1), (a .made .rows .twice, a .made .rows .few, a .made .rows .plane)),
       ),
     )
 

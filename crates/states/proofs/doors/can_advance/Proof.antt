@@ -1,43 +1,55 @@
 -- `can_advance` asks the questions of `advances` in their order.
 use borrow.Author.Needs.{needs}
-use mathlib.Core.Path.{sym, _∙_}
+use mathlib.Core.Path.{_≡_, sym, _∙_}
+use mathlib.Core.Bool.{true}
 use borrow.Author.Tests.{not-true, not-false}
-use Rattle.states.proofs.DoorTests.{advances-1, advances-2, advances-3, advances-4, advances-5, advances-6}
+use Rattle.states.specs.Doors.{canMake, stateFits}
+use Rattle.states.proofs.DoorTests.{make-facts, advances-1, advances-2, advances-3, advances-4}
 use Rattle.states.proofs.doors.can_advance.Statement.{statement}
 use Rattle.states.proofs.doors.can_advance.Tie as tie
 
-is-well-formed-requires : tie.Need-is-well-formed-requires
-is-well-formed-requires c κs = search needs
+makes : (e : tie.Else1) → let a = e .before .before .args in canMake (a .plan) (a .states) (a .held) (a .below) ≡ true
+makes e = sym (e .before .can-make .ensures) ∙ not-false _ (e .if1 .left)
+
+source : (e : tie.Else2) → let a = e .before .before .before .before .args in stateFits (a .plan) (a .from) (a .work) ≡ true
+source e = sym (e .before .state-fits .ensures) ∙ not-false _ (e .if2 .left)
+
+can-make-requires : tie.Need-can-make-requires
+can-make-requires c κs = search needs
 
 returns : tie.Need-returns
-returns c = advances-1 _ _ _ _ _ _ _ (sym (c .before .is-well-formed .ensures) ∙ not-true _ (c .if1 .taken))
-
-returns-2 : tie.Need-returns-2
-returns-2 c = advances-2 _ _ _ _ _ _ _ (sym (c .before .before .is-well-formed .ensures) ∙ not-false _ (c .before .if1 .left)) (c .if2 .taken)
-
-held-fits-requires : tie.Need-held-fits-requires
-held-fits-requires c κs = (sym (c .before .before .is-well-formed .ensures) ∙ not-false _ (c .before .if1 .left))
-
-returns-3 : tie.Need-returns-3
-returns-3 c = advances-3 _ _ _ _ _ _ _ (sym (c .before .before .before .before .is-well-formed .ensures) ∙ not-false _ (c .before .before .before .if1 .left)) (c .before .before .if2 .left) (sym (c .before .held-fits .ensures) ∙ not-true _ (c .if3 .taken))
+returns c = advances-1 _ _ _ _ _ _ _ (sym (c .before .can-make .ensures) ∙ not-true _ (c .if1 .taken))
 
 state-fits-requires : tie.Need-state-fits-requires
-state-fits-requires c κs = (sym (c .before .before .before .before .is-well-formed .ensures) ∙ not-false _ (c .before .before .before .if1 .left))
+state-fits-requires c κs = make-facts _ _ _ _ (makes c) .form
 
-returns-4 : tie.Need-returns-4
-returns-4 c = advances-4 _ _ _ _ _ _ _ (sym (c .before .before .before .before .before .before .is-well-formed .ensures) ∙ not-false _ (c .before .before .before .before .before .if1 .left)) (c .before .before .before .before .if2 .left) (sym (c .before .before .before .held-fits .ensures) ∙ not-false _ (c .before .before .if3 .left)) (sym (c .before .state-fits .ensures) ∙ not-true _ (c .if4 .taken))
+returns-2 : tie.Need-returns-2
+returns-2 c = advances-2 _ _ _ _ _ _ _ (makes (c .before .before)) (sym (c .before .state-fits .ensures) ∙ not-true _ (c .if2 .taken))
 
 state-fits-requires-2 : tie.Need-state-fits-requires-2
-state-fits-requires-2 c κs = (sym (c .before .before .before .before .before .before .is-well-formed .ensures) ∙ not-false _ (c .before .before .before .before .before .if1 .left))
+state-fits-requires-2 c κs = make-facts _ _ _ _ (makes (c .before .before)) .form
 
-returns-5 : tie.Need-returns-5
-returns-5 c = advances-5 _ _ _ _ _ _ _ (sym (c .before .before .before .before .before .before .before .before .is-well-formed .ensures) ∙ not-false _ (c .before .before .before .before .before .before .before .if1 .left)) (c .before .before .before .before .before .before .if2 .left) (sym (c .before .before .before .before .before .held-fits .ensures) ∙ not-false _ (c .before .before .before .before .if3 .left)) (sym (c .before .before .before .state-fits .ensures) ∙ not-false _ (c .before .before .if4 .left)) (sym (c .before .state-fits2 .ensures) ∙ not-true _ (c .if5 .taken))
+returns-3 : tie.Need-returns-3
+returns-3 c =
+    advances-3 _ _ _ _ _ _ _ (makes (c .before .before .before .before)) (source (c .before .before)) (sym (c .before .state-fits2 .ensures) ∙ not-true _ (c .if3 .taken))
 
 same-or-apart-requires : tie.Need-same-or-apart-requires
-same-or-apart-requires c κs = (sym (c .before .before .before .before .before .before .before .before .is-well-formed .ensures) ∙ not-false _ (c .before .before .before .before .before .before .before .if1 .left))
+same-or-apart-requires c κs = make-facts _ _ _ _ (makes (c .before .before .before .before)) .form
 
-returns-6 : tie.Need-returns-6
-returns-6 c = c .same-or-apart .ensures ∙ advances-6 _ _ _ _ _ _ _ (sym (c .before .before .before .before .before .before .before .before .before .is-well-formed .ensures) ∙ not-false _ (c .before .before .before .before .before .before .before .before .if1 .left)) (c .before .before .before .before .before .before .before .if2 .left) (sym (c .before .before .before .before .before .before .held-fits .ensures) ∙ not-false _ (c .before .before .before .before .before .if3 .left)) (sym (c .before .before .before .before .state-fits .ensures) ∙ not-false _ (c .before .before .before .if4 .left)) (sym (c .before .before .state-fits2 .ensures) ∙ not-false _ (c .before .if5 .left))
+returns-4 : tie.Need-returns-4
+returns-4 c =
+    c .same-or-apart .ensures
+    ∙ advances-4 _ _ _ _ _ _ _ (makes (c .before .before .before .before .before)) (source (c .before .before .before)) (sym (c .before .before .state-fits2 .ensures) ∙ not-false _ (c .before .if3 .left))
 
 pub can-advance-spec : {M : Type 1} → statement M
-can-advance-spec = tie.close (tie.spec is-well-formed-requires returns returns-2 held-fits-requires returns-3 state-fits-requires returns-4 state-fits-requires-2 returns-5 same-or-apart-requires returns-6)
+can-advance-spec =
+    tie.close
+    (tie.spec
+    can-make-requires
+    returns
+    state-fits-requires
+    returns-2
+    state-fits-requires-2
+    returns-3
+    same-or-apart-requires
+    returns-4)

@@ -1,6 +1,7 @@
 -- `can_hold` asks the two questions of `canHold` in their order.
 use borrow.Author.Needs.{needs}
 use mathlib.Core.Path.{sym, _∙_}
+use native.Mathlib.Omega.{arith}
 use borrow.Author.Tests.{not-true, not-false}
 use Rattle.states.proofs.DoorTests.{hold-1, hold-2}
 use Rattle.states.proofs.doors.can_hold.Statement.{statement}
@@ -13,7 +14,7 @@ returns : tie.Need-returns
 returns c = hold-1 _ _ _ (sym (c .before .is-well-formed .ensures) ∙ not-true _ (c .if1 .taken))
 
 held-fits-requires : tie.Need-held-fits-requires
-held-fits-requires c κs = sym (c .before .is-well-formed .ensures) ∙ not-false _ (c .if1 .left)
+held-fits-requires c κs = (sym (c .before .is-well-formed .ensures) ∙ not-false _ (c .if1 .left), omega arith)
 
 returns-2 : tie.Need-returns-2
 returns-2 c =

@@ -5,23 +5,23 @@ use Rattle.states.proofs.DoorTests.{held-1, held-2, held-3}
 use Rattle.states.proofs.doors.held_fits.Statement.{statement}
 use Rattle.states.proofs.doors.held_fits.Tie as tie
 
-half-of-requires : tie.Need-half-of-requires
-half-of-requires c κs = let l = formed (c .args .plan) (c .pre) .limits in (l .few-planes, l .few-across)
+half-with-requires : tie.Need-half-with-requires
+half-with-requires c κs = let l = formed (c .args .plan) (c .pre .0) .limits in (l .few-planes, l .few-across, c .pre .1)
 
 add-if1 : tie.Need-add-if1
-add-if1 c = omega (arith, c .half-of .ensures)
+add-if1 c = omega (arith, c .half-with .ensures)
 
 returns : tie.Need-returns
-returns c = held-1 _ _ _ _ (c .before .half-of .ensures .0) (c .if1 .taken)
+returns c = held-1 _ _ _ _ _ (c .before .half-with .ensures .0) (c .if1 .taken)
 
 returns-2 : tie.Need-returns-2
-returns-2 c = held-2 _ _ _ _ (c .before .before .half-of .ensures .0) (c .before .if1 .left) (c .if2 .taken)
+returns-2 c = held-2 _ _ _ _ _ (c .before .before .half-with .ensures .0) (c .before .if1 .left) (c .if2 .taken)
 
 add-result : tie.Need-add-result
-add-result c = omega (arith, formed (c .before .before .before .before .args .plan) (c .before .before .before .before .pre) .limits .few-across)
+add-result c = let s = c .before .before .before .before in omega (arith, formed (s .args .plan) (s .pre .0) .limits .few-across)
 
 returns-3 : tie.Need-returns-3
-returns-3 c = held-3 _ _ _ _ (c .before .before .before .half-of .ensures .0) (c .before .before .if1 .left) (c .before .if2 .left)
+returns-3 c = held-3 _ _ _ _ _ (c .before .before .before .half-with .ensures .0) (c .before .before .if1 .left) (c .before .if2 .left)
 
 pub held-fits-spec : {M : Type 1} → statement M
-held-fits-spec = tie.close (tie.spec half-of-requires add-if1 returns returns-2 add-result returns-3)
+held-fits-spec = tie.close (tie.spec half-with-requires add-if1 returns returns-2 add-result returns-3)

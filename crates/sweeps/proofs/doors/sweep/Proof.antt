@@ -66,7 +66,7 @@ sweep-held-requires c κs =
             λ x. omega (arith, room-linked (a .plan) x, room, l .before .before .if4 .left),
             l .if5 .left,
           ),
-          (h .1 .twice, formed (a .plan) (h .0) .limits .few-across),
+          (h .1, formed (a .plan) (h .0) .limits .few-across),
         ),
       ),
     )

@@ -1,17 +1,15 @@
 -- `drop_later` meets its contract: it goes down the marks to one that will do.
 use Prim.Native.Nat.{_≤_}
-use mathlib.Core.Path.{_∙_}
-use borrow.Author.Tests.{ltb-true}
 use native.Mathlib.Omega.{arith}
 use Rattle.sweeps.proofs.StackLaws.{last-none, last-of}
 use Rattle.sweeps.proofs.stack.drop_later.Statement.{statement}
 use Rattle.sweeps.proofs.stack.drop_later.Tie as tie
 
 abbrev Inv-loop : tie.InvT-loop
-Inv-loop marks places depth want d₀ d = d ≤ depth
+Inv-loop marks places depth want spare d₀ d = d ≤ depth
 
 abbrev μ-loop : tie.MeasureT-loop
-μ-loop marks places depth want d₀ d = d
+μ-loop marks places depth want spare d₀ d = d
 
 loop-holds : tie.Need-loop-holds Inv-loop μ-loop
 loop-holds c = omega arith
@@ -27,17 +25,13 @@ shared-slice-read-last c = omega arith
 
 returns : tie.Need-returns Inv-loop μ-loop
 returns c =
-    let l = c .before .before .before .loop in
-    let a = c .before .before .before .before .args in
-    let e = last-of (a .marks .now) (l .d) (omega arith) in
-    (omega arith, omega (arith, e, c .if1 .taken), λ f. e ∙ c .if1 .taken)
+    let e = last-of (c .before .before .before .before .before .args .marks .now) (c .before .before .before .before .loop .d) (omega arith) in
+    (omega arith, omega (arith, e), λ f. absurd (omega (arith, f)))
 
 returns-2 : tie.Need-returns-2 Inv-loop μ-loop
 returns-2 c =
-    let l = c .before .before .before .before .before .loop in
-    let a = c .before .before .before .before .before .before .args in
-    let e = last-of (a .marks .now) (l .d) (omega arith) in
-    (omega arith, omega (arith, e), λ f. absurd (omega (arith, f, ltb-true (l .d) (a .places) (c .if3 .taken))))
+    let e = last-of (c .before .before .before .before .before .before .args .marks .now) (c .before .before .before .before .before .loop .d) (omega arith) in
+    (omega arith, omega (arith, e), λ f. omega (arith, e))
 
 sub-d : tie.Need-sub-d Inv-loop μ-loop
 sub-d c = omega arith

@@ -1,6 +1,5 @@
 -- `stride` meets its contract: each number on the way lies between 1 and `far`, and none falls below the one before.
 use Prim.Native.Nat.{_-_, _≤_}
-use mathlib.Core.Path.{refl}
 use native.Mathlib.Omega.{arith}
 use borrow.Author.Needs.{needs}
 use Rattle.sweeps.proofs.StackLaws.{product-small, quotient-grows}
@@ -13,9 +12,6 @@ Inv-loop places far last₀ c₀ t₀ last c t = (last ≤ c) × (1 ≤ c) × (c
 abbrev μ-loop : tie.MeasureT-loop
 μ-loop places far last₀ c₀ t₀ last c t = 1024 - t
 
-returns : tie.Need-returns Inv-loop μ-loop
-returns c = (omega arith, omega arith, λ e. refl)
-
 loop-holds : tie.Need-loop-holds Inv-loop μ-loop
 loop-holds c = omega arith
 
@@ -25,7 +21,7 @@ add-more c = omega arith
 mul-more : tie.Need-mul-more Inv-loop μ-loop
 mul-more c =
     let l = c .before .loop in
-    omega (arith, product-small (l .c) (c .before .before .before .args .places) (l .t) (omega arith) (omega arith) (omega arith))
+    omega (arith, product-small (l .c) (c .before .before .args .places) (l .t) (omega arith) (omega arith) (omega arith))
 
 div-more : tie.Need-div-more Inv-loop μ-loop
 div-more c = omega arith
@@ -42,8 +38,8 @@ sub-lesser-2 c = omega arith
 lesser-requires : tie.Need-lesser-requires Inv-loop μ-loop
 lesser-requires c κs = search needs
 
-returns-2 : tie.Need-returns-2 Inv-loop μ-loop
-returns-2 c = (omega (arith, c .lesser .ensures), omega (arith, c .lesser .ensures), λ e. absurd (omega arith))
+returns : tie.Need-returns Inv-loop μ-loop
+returns c = (omega (arith, c .lesser .ensures), omega (arith, c .lesser .ensures))
 
 add-t : tie.Need-add-t Inv-loop μ-loop
 add-t c = omega arith
@@ -54,11 +50,11 @@ loop-less c = omega arith
 loop-again : tie.Need-loop-again Inv-loop μ-loop
 loop-again c =
     let l = c .before .before .loop in
-    let more = quotient-grows (l .c) (c .before .before .before .before .args .places) (l .t) (omega arith) in
+    let more = quotient-grows (l .c) (c .before .before .before .args .places) (l .t) (omega arith) in
     (more, omega (arith, more), omega arith, omega arith, omega arith)
 
-returns-3 : tie.Need-returns-3 Inv-loop μ-loop
-returns-3 c = (omega arith, omega arith, λ e. absurd (omega arith))
+returns-2 : tie.Need-returns-2 Inv-loop μ-loop
+returns-2 c = (omega arith, omega arith)
 
 pub stride-spec : {M : Type 1} → statement M
 stride-spec =
@@ -66,7 +62,6 @@ stride-spec =
     (tie.spec
     Inv-loop
     μ-loop
-    returns
     loop-holds
     add-more
     mul-more
@@ -75,8 +70,8 @@ stride-spec =
     sub-lesser
     sub-lesser-2
     lesser-requires
-    returns-2
+    returns
     add-t
     loop-less
     loop-again
-    returns-3)
+    returns-2)

@@ -6,8 +6,8 @@ use native.Mathlib.Omega.{arith}
 use lib.ListN.{length}
 use Rattle.plans.specs.Plans.{stateSize, keysSize}
 use Rattle.plans.proofs.FormLaws.{well-formed-sound}
-use Rattle.sweeps.proofs.StackLaws.{apart-none}
-use Rattle.sweeps.proofs.SweepLaws.{SweptTo, same-keys, same-size, same-half, swept-none, swept-more, swept-all, unlinked}
+use Rattle.sweeps.proofs.StackLaws.{apart-none, half-one}
+use Rattle.sweeps.proofs.SweepLaws.{SweptTo, same-keys, same-size, same-half, full-last, swept-none, swept-more, swept-all, unlinked}
 use Rattle.sweeps.proofs.sweeping.sweep_apart.Statement.{statement}
 use Rattle.sweeps.proofs.sweeping.sweep_apart.Tie as tie
 
@@ -20,10 +20,13 @@ abbrev μ-loop : tie.MeasureT-loop
 μ-loop best₀ work₀ held₀ below₀ plan other states base e₀ best work held below e = states - e
 
 mul-base : tie.Need-mul-base Inv-loop μ-loop
-mul-base c = let s = c .before .before .before .before .before in omega (arith, well-formed-sound _ (s .pre .0 .0) .few-pixels)
+mul-base c = omega (arith, well-formed-sound _ (c .before .before .before .before .before .pre .0 .0) .few-pixels)
 
 loop-holds : tie.Need-loop-holds Inv-loop μ-loop
 loop-holds c = let a = c .before .before .before .before .before .args in (refl, refl, refl, refl, swept-none (a .plan) (a .other) (a .states) _ _ _)
+
+add-d : tie.Need-add-d Inv-loop μ-loop
+add-d c = omega (arith, c .before .before .before .before .before .before .before .pre .1 .0 .0 .few, c .loop-test .taken)
 
 advance-requires : tie.Need-advance-requires Inv-loop μ-loop
 advance-requires c κs =
@@ -37,11 +40,11 @@ advance-requires c κs =
     omega (arith, same-size (a .plan) (a .other) (a .states) o, i .1, s .pre .1 .1 .0 .0) in (
       s .pre .0 .1,
       (
-        (omega (arith, o .few, c .before .before .before .loop-test .taken), clear, clear, fits, fits),
+        (omega arith, omega (arith, o .few, c .before .before .before .loop-test .taken), clear, clear, fits, fits),
         (
           inl refl,
           (
-            omega (arith, same-half (a .plan) (a .other) (a .states) o, i .2, s .pre .1 .1 .1 .0),
+            half-one (a .other) (l .e) _ (omega (arith, same-half (a .plan) (a .other) (a .states) o, i .2, s .pre .1 .1 .1 .0)),
             omega (arith, i .2, s .pre .1 .1 .1 .1),
             omega (arith, o .same-across, i .3, s .pre .1 .1 .1 .2),
           ),
@@ -55,26 +58,26 @@ sub-d c = omega (arith, c .before .before .before .before .before .before .befor
 sub-d-2 : tie.Need-sub-d-2 Inv-loop μ-loop
 sub-d-2 c = omega (arith, c .before .before .before .before .before .before .before .before .before .before .loop-test .taken)
 
+add-t14 : tie.Need-add-t14 Inv-loop μ-loop
+add-t14 c = omega (arith, c .before .before .before .before .before .before .before .before .before .before .before .before .before .before .before .before .before .pre .1 .0 .0 .few)
+
 advance-joined-requires : tie.Need-advance-joined-requires Inv-loop μ-loop
 advance-joined-requires c κs =
-    let c10 = c .before .before .before .before .before .before .before .before .before .before in
-    let c14 = c10 .before .before .before .before in
-    let c15 = c14 .before in
-    let s = c15 .before .before .before .before .before .before in
+    let s = c .before .before .before .before .before .before .before .before .before .before .before .before .before .before .before .before .before .before .before .before .before in
     let a = s .args in
     let o = s .pre .1 .0 .0 in
-    let l = c15 .loop in
+    let l = c .before .before .before .before .before .before .before .before .before .before .before .before .before .before .before .loop in
     let i = l .inv in
-    let v = c10 .advance in
-    let taken = c14 .loop-test .taken in
+    let v = c .before .before .before .before .before .before .before .before .before .before .advance in
+    let taken = c .before .before .before .before .before .before .before .before .before .before .before .before .before .before .loop-test .taken in
     let fits : keysSize (a .plan) + stateSize (a .plan) ≤ length (v .last .0) = omega (arith, v .ensures .0 .apart .len, i .1, s .pre .1 .1 .0 .0) in (
       s .pre .0 .0,
       (
-        (omega (arith, o .few, taken), o .full (a .states - 1 - l .e) (omega (arith, taken)), omega (arith, i .0, s .pre .1 .1 .0 .1)),
+        (omega arith, omega (arith, o .few), full-last (a .plan) (a .other) (a .states) o _ (omega (arith, taken)), omega (arith, i .0, s .pre .1 .1 .0 .1)),
         (
           (omega arith, fits, omega arith, fits),
           (
-            omega (arith, v .ensures .1 .0, i .2, s .pre .1 .1 .1 .0),
+            half-one (a .plan) (a .states - 1 - l .e) _ (omega (arith, v .ensures .1 .0, i .2, s .pre .1 .1 .1 .0)),
             omega (arith, v .ensures .1 .0, i .2, s .pre .1 .1 .1 .1),
             omega (arith, v .ensures .1 .1, i .3, s .pre .1 .1 .1 .2),
           ),
@@ -83,34 +86,27 @@ advance-joined-requires c κs =
     )
 
 add-e : tie.Need-add-e Inv-loop μ-loop
-add-e c =
-    let c21 = c .before .before .before .before .before .before .before .before .before .before .before .before .before .before .before .before .before .before .before .before .before in
-    let s = c21 .before .before .before .before .before .before .before in
-    omega (arith, s .pre .1 .0 .0 .few, c21 .loop-test .taken)
+add-e c = omega (arith, c .before .before .before .before .before .before .before .before .before .before .before .before .before .before .before .before .before .before .before .before .before .before .before .before .before .before .before .before .pre .1 .0 .0 .few, c .before .before .before .before .before .before .before .before .before .before .before .before .before .before .before .before .before .before .before .before .before .loop-test .taken)
 
 loop-less : tie.Need-loop-less Inv-loop μ-loop
 loop-less c = omega (arith, c .before .before .before .before .before .before .before .before .before .before .before .before .before .before .before .before .before .before .before .before .before .loop-test .taken)
 
 loop-again : tie.Need-loop-again Inv-loop μ-loop
 loop-again c =
-    let c6 = c .before .before .before .before .before .before in
-    let c17 = c6 .before .before .before .before .before .before .before .before .before .before .before in
-    let c21 = c17 .before .before .before .before in
-    let c22 = c21 .before in
-    let s = c22 .before .before .before .before .before .before in
+    let s = c .before .before .before .before .before .before .before .before .before .before .before .before .before .before .before .before .before .before .before .before .before .before .before .before .before .before .before .before in
     let a = s .args in
-    let l = c22 .loop in
+    let l = c .before .before .before .before .before .before .before .before .before .before .before .before .before .before .before .before .before .before .before .before .before .before .loop in
     let i = l .inv in
-    let v = c17 .advance in
-    let w = c6 .advance-joined in
+    let v = c .before .before .before .before .before .before .before .before .before .before .before .before .before .before .before .before .before .advance in
+    let w = c .before .before .before .before .before .before .advance-joined in
     let base = keysSize (a .plan) in (
       w .ensures .1 .1 ∙ i .0,
       v .ensures .0 .apart .len ∙ i .1,
       w .ensures .1 .0 .0 ∙ v .ensures .1 .0 ∙ i .2,
       w .ensures .1 .0 .1 ∙ v .ensures .1 .1 ∙ i .3,
       swept-more (a .plan) (a .other) (a .states) (well-formed-sound _ (s .pre .0 .0)) (well-formed-sound _ (s .pre .0 .1)) (s .pre .1 .0 .0) (l .e) (a .states - 1 - l .e) base
-          (c21 .loop-test .taken) refl (a .work .now) (a .best .now) (l .work) (l .best) (v .last .0) (v .last .0) (w .last .0) base base base
-          (omega arith) (omega arith) (omega arith) (i .4) (v .ensures .0) (apart-none _ _ _)
+          (c .before .before .before .before .before .before .before .before .before .before .before .before .before .before .before .before .before .before .before .before .before .loop-test .taken) refl (a .work .now) (a .best .now) (l .work) (l .best) (v .last .0) (v .last .0) (w .last .0) base base base
+          (omega arith) (omega arith) (omega arith) (i .4) (v .ensures .0) (apart-none _ _ _) _
           (unlinked (a .plan) (a .states) _ _ _ _ (s .pre .1 .0 .1)) (w .ensures .0),
     )
 
@@ -140,9 +136,11 @@ sweep-apart-spec =
     μ-loop
     mul-base
     loop-holds
+    add-d
     advance-requires
     sub-d
     sub-d-2
+    add-t14
     advance-joined-requires
     add-e
     loop-less

@@ -25,11 +25,15 @@ returns c =
     let p = s .pre .1 in
     let taken = e .0 ∙ advances-if _ _ _ _ _ _ _
     record {
-      form = s .pre .0;
-      near = p .0 .0;
-      rows = record { twice = p .1 .1 .0; few = p .1 .1 .1; plane = p .1 .1 .2 };
-      source = (p .0 .1, p .0 .3);
-      target = (p .0 .2, p .0 .4);
+      made =
+          record {
+            form = s .pre .0;
+            some = p .0 .0;
+            near = p .0 .1;
+            rows = record { twice = p .1 .1 .0; few = p .1 .1 .1; plane = p .1 .1 .2 };
+          };
+      source = (p .0 .2, p .0 .4);
+      target = (p .0 .3, p .0 .5);
       apart = p .1 .0;
     } in (rw taken at (e .1 .0), e .1 .1)
 

@@ -25,13 +25,17 @@ returns c =
     let p = s .pre .1 in
     let taken = e .0 ∙ joins-if _ _ _ _ _ _ _ _
     record {
-      form = s .pre .0;
-      near = p .0 .0;
-      full = p .0 .1;
-      rows = record { twice = p .1 .1 .0; few = p .1 .1 .1; plane = p .1 .1 .2 };
+      made =
+          record {
+            form = s .pre .0;
+            some = p .0 .0;
+            near = p .0 .1;
+            rows = record { twice = p .1 .1 .0; few = p .1 .1 .1; plane = p .1 .1 .2 };
+          };
+      full = p .0 .2;
       source = (p .1 .0 .0, p .1 .0 .1);
       other = (p .1 .0 .2, p .1 .0 .3);
-      result = p .0 .2;
+      result = p .0 .3;
     } in (rw taken at (e .1 .0), e .1 .1)
 
 pub advance-joined-spec : {M : Type 1} → statement M

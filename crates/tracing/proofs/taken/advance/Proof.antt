@@ -1,10 +1,15 @@
 -- `advance` meets its contract: what is asked of it is what the door judges.
 use mathlib.Core.Path.{refl, _∙_}
 use mathlib.Core.Logic.{inl}
+use native.Mathlib.Omega.{arith}
 use borrow.Author.Needs.{needs}
 use Rattle.states.proofs.DoorTests.{advances-if}
+use Rattle.sweeps.proofs.StackLaws.{half-one}
 use Rattle.tracing.proofs.taken.advance.Statement.{statement}
 use Rattle.tracing.proofs.taken.advance.Tie as tie
+
+add-t8 : tie.Need-add-t8
+add-t8 c = omega (arith, c .before .before .before .pre .1 .0 .0)
 
 advance-requires : tie.Need-advance-requires
 advance-requires c κs = search needs
@@ -25,13 +30,17 @@ returns c =
     let p = s .pre .1 in
     let taken = e .0 ∙ advances-if _ _ _ _ _ _ _
     record {
-      form = s .pre .0;
-      near = p .0 .0;
-      rows = record { twice = p .1 .0; few = p .1 .1; plane = p .1 .2 };
+      made =
+          record {
+            form = s .pre .0;
+            some = omega arith;
+            near = omega (arith, p .0 .0);
+            rows = record { twice = half-one _ _ _ (p .1 .0); few = p .1 .1; plane = p .1 .2 };
+          };
       source = (p .0 .1, p .0 .2);
       target = (p .0 .1, p .0 .2);
       apart = inl refl;
     } in (rw taken at (e .1 .0), e .1 .1)
 
 pub advance-spec : {M : Type 1} → statement M
-advance-spec = tie.close (tie.spec advance-requires same-length same-length-2 same-length-3 returns)
+advance-spec = tie.close (tie.spec add-t8 advance-requires same-length same-length-2 same-length-3 returns)

@@ -1,4 +1,5 @@
 -- `fetch` meets its contract: what is asked of it is what the door judges.
+use native.Mathlib.Omega.{arith}
 use borrow.Author.Needs.{needs}
 use Rattle.sweeps.proofs.DoorTests.{fetches-if}
 use Rattle.tracing.proofs.taken.fetch.Statement.{statement}
@@ -24,7 +25,7 @@ returns c =
     let e = c .before .before .before .before .before .before .before .before .fetch .ensures in
     let s = c .before .before .before .before .before .before .before .before .before .before .before .before .before .before .before .before .before in
     let p = s .pre .1 in
-    let taken = fetches-if _ _ _ _ _ _ _ (s .pre .0) (record { twice = p .1 .0; few = p .1 .1; plane = p .1 .2 }) (p .0 .0) (p .0 .1) in
+    let taken = fetches-if _ _ _ 0 _ _ _ _ (s .pre .0) (p .1 .0) (p .1 .1) (p .1 .2) (p .0 .0) (p .0 .1) (omega arith) in
     let both = rw taken at (e .0) in (both .0, (both .1, e .1))
 
 pub fetch-spec : {M : Type 1} → statement M
