@@ -11,11 +11,11 @@ use borrow.Author.Tests.{eqb-true, eqb-false}
 use Rattle.theory.proofs.WalksTo.{from-start, from-step}
 use Rattle.frames.specs.Frames.{Framed, placeIn, onward}
 use Rattle.frames.specs.declared.frame.Frame.{Frame}
-use Rattle.plans.specs.Plans.{rowsIn, lineAt, rowLo, rowHi, rowAt, starts, startsAt}
+use Rattle.plans.specs.Plans.{rowsIn, lineAt, rowLo, rowHi, rowAt, starts, startsAt, stepsAt}
 use Rattle.states.specs.Rows.{gate}
 use Rattle.states.specs.States.{ahead, Grown}
 use Rattle.plans.specs.declared.plan.Plan.{Plan}
-use Rattle.directions.specs.Numbers.{stepsAt, pixelIn, numberAt}
+use Rattle.directions.specs.Numbers.{pixelIn, numberAt}
 use Rattle.theory.specs.BestWalks.{alone, fewer, best, bestWalkTo}
 use Rattle.theory.specs.Walks.{around}
 

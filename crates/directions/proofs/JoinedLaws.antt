@@ -19,11 +19,11 @@ use Rattle.theory.proofs.Sides.{side}
 use Rattle.frames.specs.Frames.{Framed, placeIn}
 use Rattle.directions.specs.Gathering.{Raised, bestOf}
 use Rattle.frames.specs.declared.frame.Frame.{Frame}
-use Rattle.plans.specs.Plans.{lineAt, rowLo, rowHi, rowAt}
+use Rattle.plans.specs.Plans.{lineAt, rowLo, rowHi, rowAt, stepsAt}
 use Rattle.sweeps.specs.Sweeps.{met, AllJoined}
 use Rattle.plans.specs.declared.plan.Plan.{Plan}
 use Rattle.directions.specs.Plans.{FrameOf, filterPlan, filterStates}
-use Rattle.directions.specs.Numbers.{stepsAt, pixelIn, numberAt, placeKept, keysBy}
+use Rattle.directions.specs.Numbers.{pixelIn, numberAt, placeKept, keysBy}
 use Rattle.directions.specs.Gathering.{Risen}
 use Rattle.theory.specs.BestWalks.{upto, bestWalk, joinedAt, bestThrough, keyAt}
 use Rattle.theory.specs.Walks.{around}

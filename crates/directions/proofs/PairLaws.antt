@@ -6,10 +6,10 @@ use mathlib.Core.Bool.{Bool, true, false, cond}
 use native.Mathlib.Omega.{arith}
 use Rattle.frames.specs.Frames.{placeIn}
 use Rattle.frames.specs.declared.frame.Frame.{Frame}
-use Rattle.plans.specs.Plans.{lineOf, firstIn, pastIn, orderOf, lineAt, rowLo, rowHi, rowsIn}
+use Rattle.plans.specs.Plans.{lineOf, firstIn, pastIn, orderOf, lineAt, rowLo, rowHi, rowsIn, stepsAt}
 use Rattle.plans.specs.declared.plan.Plan.{Plan}
 use Rattle.directions.specs.Plans.{straightPlan, stillPlan, rankedPlan, wholeArea, spareOf, filterPlan, filterStates}
-use Rattle.directions.specs.Numbers.{stepsAt, pixelIn}
+use Rattle.directions.specs.Numbers.{pixelIn}
 use Rattle.directions.proofs.ChoiceLaws.{filter-choice}
 use Rattle.plans.proofs.LineForms.{still-rows}
 

@@ -9,11 +9,11 @@ use native.Mathlib.Omega.{arith}
 use lib.Dec.{eqb}
 use Rattle.frames.specs.Frames.{placeIn, Bounded, Framed}
 use Rattle.frames.specs.declared.frame.Frame.{Frame}
-use Rattle.plans.specs.Plans.{lineAt, rowLo, rowHi, rowAt, rowsIn}
+use Rattle.plans.specs.Plans.{lineAt, rowLo, rowHi, rowAt, rowsIn, stepsAt}
 use Rattle.plans.specs.Forms.{wellFormed}
 use Rattle.sweeps.specs.Stacks.{Sequence}
 use Rattle.plans.specs.declared.plan.Plan.{Plan}
-use Rattle.directions.specs.Numbers.{stepsAt, pixelIn, numberAt, placeKept}
+use Rattle.directions.specs.Numbers.{pixelIn, numberAt, placeKept}
 use Rattle.directions.specs.Plans.{straightPlan, rankedPlan, AreaOf, FrameOf}
 use Rattle.directions.specs.Traces.{traceArea, tracePlan, traceStates, SpotOf}
 use Rattle.directions.specs.declared.frame.Spot.{Spot}

@@ -10,9 +10,9 @@ use lib.Dec.{eqb}
 use borrow.Author.Tests.{eqb-true, eq-eqb}
 use Rattle.frames.specs.Frames.{placeIn, Framed}
 use Rattle.frames.specs.declared.frame.Frame.{Frame}
-use Rattle.plans.specs.Plans.{lineOf, firstIn, pastIn, orderOf, lineAt, rowLo, rowHi, rowsIn, starts, startsAt}
+use Rattle.plans.specs.Plans.{lineOf, firstIn, pastIn, orderOf, lineAt, rowLo, rowHi, rowsIn, starts, startsAt, stepsAt}
 use Rattle.plans.specs.declared.plan.Plan.{Plan}
-use Rattle.directions.specs.Numbers.{stepsAt, pixelIn}
+use Rattle.directions.specs.Numbers.{pixelIn}
 use Rattle.directions.specs.Plans.{straightPlan, rankedPlan, FrameOf}
 use Rattle.directions.specs.Traces.{traceArea, tracePlan, traceStates, SpotOf}
 use Rattle.directions.specs.declared.frame.Spot.{Spot}

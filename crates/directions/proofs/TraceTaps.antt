@@ -11,11 +11,11 @@ use lib.Dec.{leb}
 use borrow.Author.Tests.{leb-true}
 use Rattle.frames.specs.Frames.{past, Framed}
 use Rattle.frames.specs.declared.frame.Frame.{Frame}
-use Rattle.plans.specs.Plans.{lineAt, rowLo, rowHi, rowsIn, Sound}
+use Rattle.plans.specs.Plans.{lineAt, rowLo, rowHi, rowsIn, Sound, stepsAt}
 use Rattle.states.specs.Rows.{gate, inRow}
 use Rattle.states.specs.States.{rowBefore, lastBefore, seen}
 use Rattle.plans.specs.declared.plan.Plan.{Plan}
-use Rattle.directions.specs.Numbers.{stepsAt, pixelIn}
+use Rattle.directions.specs.Numbers.{pixelIn}
 use Rattle.directions.specs.Plans.{straightPlan, rankedPlan, AreaOf}
 use Rattle.directions.specs.Traces.{traceArea, tracePlan, SpotOf}
 use Rattle.directions.specs.declared.plan.Area.{Area}

@@ -11,13 +11,9 @@ use Rattle.plate.specs.Opening.{levelAt}
 use Rattle.frames.specs.Keys.{keyBy}
 use Rattle.frames.specs.Frames.{placeIn, Bounded}
 use Rattle.frames.specs.declared.frame.Frame.{Frame}
-use Rattle.plans.specs.Plans.{lineAt}
+use Rattle.plans.specs.Plans.{lineAt, stepsAt}
 use Rattle.plans.specs.declared.plan.Plan.{Plan}
 use Rattle.theory.specs.BestWalks.{bestWalkTo}
-
--- the steps of the walks of row m of state e
-abbrev pub stepsAt : Plan → ℕ → ℕ → ℕ
-stepsAt p e m = cond (p .ranked) e m
 
 -- the place of pixel x on a line or rank of the frame
 abbrev pub pixelIn : Frame → Bool → ℕ → ℕ → ℕ

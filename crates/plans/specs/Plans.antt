@@ -53,6 +53,10 @@ rowOf p e m = cond (isSmall p e m) (record { lo = rowLo p e m; hi = rowHi p e m;
 unfoldable pub rowsIn : Plan → ℕ → ℕ
 rowsIn p e = cond (p .still) (cond (leb (e + 1) (p .orders)) (p .rows) 0) (min (p .rows) (p .orders - e))
 
+-- how many steps the walks of this row have
+abbrev pub stepsAt : Plan → ℕ → ℕ → ℕ
+stepsAt p e m = cond (p .ranked) e m
+
 -- are the walks of this row those of no steps?
 unfoldable pub starts : Plan → ℕ → ℕ → Bool
 starts p e m = cond (p .ranked) (eqb e 0) (eqb m 0)

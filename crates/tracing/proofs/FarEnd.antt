@@ -7,25 +7,26 @@ use mathlib.Core.List.{List}
 use native.Mathlib.Omega.{arith}
 use lib.IntN.{ℤ}
 use Rattle.theory.proofs.Towards.{towards-find}
-use Rattle.plans.specs.Plans.{lineAt, rowsIn}
+use Rattle.plans.specs.Plans.{lineAt, rowsIn, stepsAt}
 use Rattle.states.specs.States.{Holds}
 use Rattle.sweeps.specs.Stacks.{KeysAre}
-use Rattle.directions.specs.Numbers.{stepsAt, pixelIn}
+use Rattle.directions.specs.Numbers.{pixelIn}
 use Rattle.directions.proofs.TraceRows.{HasRow}
 use Rattle.frames.specs.Frames.{placeIn}
 use Rattle.tracing.specs.Scans.{Sound, bitOf, keyOf}
 use Rattle.tracing.specs.Sights.{Seen, seenAt}
-use Rattle.tracing.specs.Following.{Leads, Tells, Picked, OfSteps, Stands}
-use Rattle.tracing.specs.declared.follow.Stand.{Stand}
+use Rattle.tracing.specs.Following.{Leads, Stands, EndsAt}
+use Rattle.walks.specs.Picking.{Tells, Picked, OfSteps}
+use Rattle.walks.specs.declared.stand.Stand.{Stand}
 use Rattle.tracing.specs.declared.scan.Scan.{Scan}
 use Rattle.directions.specs.declared.sight.Sight.{Sight}
-use Rattle.tracing.specs.Endings.{endedIn, EndsAt}
+use Rattle.walks.specs.Endings.{endedIn}
 use Rattle.theory.specs.Modes.{Levels}
-use Rattle.tracing.proofs.Picking.{picked-same}
+use Rattle.walks.proofs.Picking.{picked-same}
 use Rattle.tracing.proofs.Modes.{keys-bounded}
 use Rattle.tracing.proofs.Sighting.{sight-planes, sight-sound, sight-states-few}
 use Rattle.tracing.proofs.SeenLaws.{sideKeys, toPixel, seen-ended, seen-first, seen-row}
-use Rattle.tracing.proofs.Endings.{endedBy, ended-held}
+use Rattle.walks.proofs.Endings.{endedBy, ended-held}
 use Rattle.tracing.proofs.Nearing.{placeOf}
 
 module _ (s : Scan) (b : Bool) (plate : List ℤ) (x : ℕ) (r : Sight) (sound : Sound s) (view : Seen s b x r) where

@@ -16,7 +16,7 @@ use Rattle.tracing.specs.Usable.{usable, FirstUsable}
 use Rattle.tracing.specs.Finding.{Attained, FoundIn, FoundAt, BestOf, keysBy}
 use Rattle.tracing.specs.Drawing.{Drawn}
 use Rattle.theory.specs.BestWalks.{gapEnd}
-use Rattle.tracing.specs.declared.find.Found.{Found}
+use Rattle.walks.specs.declared.found.Found.{Found}
 
 -- the work buffer keeps its size
 pub accepted-still : (W H : ℕ) (s : Setting) (plate result work work₁ : ℕ) → work₁ ≡ work → Accepted W H s plate result work → Accepted W H s plate result work₁

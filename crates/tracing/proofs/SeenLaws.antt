@@ -11,8 +11,8 @@ use lib.IntN.{ℤ}
 use Rattle.theory.proofs.WalksTo.{from-more-gaps}
 use Rattle.theory.proofs.Towards.{towards, endedTowards}
 use Rattle.frames.specs.Frames.{placeIn}
-use Rattle.plans.specs.Plans.{lineAt, rowLo, rowHi, rowAt, rowsIn}
-use Rattle.directions.specs.Numbers.{numberAt, stepsAt, pixelIn, placeKept}
+use Rattle.plans.specs.Plans.{lineAt, rowLo, rowHi, rowAt, rowsIn, stepsAt}
+use Rattle.directions.specs.Numbers.{numberAt, pixelIn, placeKept}
 use Rattle.directions.specs.Plans.{byRows}
 use Rattle.directions.proofs.TraceRows.{HasRow, trace-first}
 use Rattle.directions.proofs.TracePlans.{PixelOn, trace-pixels}
@@ -25,7 +25,7 @@ use Rattle.theory.specs.Modes.{Levels}
 use Rattle.theory.specs.Walks.{around, opposite}
 use Rattle.tracing.proofs.Modes.{keys-bounded}
 use Rattle.tracing.proofs.Sighting.{sight-slack, sight-rows}
-use Rattle.tracing.proofs.Endings.{endedBy}
+use Rattle.walks.proofs.Endings.{endedBy}
 use Rattle.theory.specs.BestWalks.{ended, bestWalkTo}
 
 module _ (s : Scan) (sound : Sound s) (b : Bool) (x : ℕ) (r : Sight) (view : Seen s b x r) where

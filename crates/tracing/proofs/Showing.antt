@@ -34,7 +34,7 @@ use Rattle.theory.proofs.Trace.{shows}
 use Rattle.engine.specs.Finishing.{Accepted}
 use Rattle.tracing.specs.Finding.{BestOf, keysBy}
 use Rattle.tracing.specs.Drawing.{Drawn}
-use Rattle.tracing.specs.declared.find.Found.{Found}
+use Rattle.walks.specs.declared.found.Found.{Found}
 use Rattle.theory.specs.Ranks.{rank}
 use Rattle.theory.specs.Walks.{around, back, lastOf}
 use Rattle.theory.specs.Modes.{Levels, asMode}

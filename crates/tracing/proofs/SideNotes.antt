@@ -13,20 +13,21 @@ use Rattle.basics.proofs.Numbers.{le-or-lt, rows-fit}
 use Rattle.theory.proofs.Towards.{towards-best}
 use Rattle.frames.specs.Frames.{placeIn}
 use Rattle.states.specs.Runs.{Between, Apart}
-use Rattle.plans.specs.Plans.{lineAt}
-use Rattle.directions.specs.Numbers.{stepsAt, pixelIn}
+use Rattle.plans.specs.Plans.{lineAt, stepsAt}
+use Rattle.directions.specs.Numbers.{pixelIn}
 use Rattle.directions.proofs.TraceRows.{HasRow}
 use Rattle.tracing.specs.Scans.{Sound, bitOf, keyOf}
 use Rattle.tracing.specs.Sights.{Seen, seenAt}
-use Rattle.tracing.specs.Noting.{Lifted, NotesFit}
+use Rattle.walks.specs.Noting.{Lifted, stepsPast}
+use Rattle.walks.proofs.Noting.{past-most}
 use Rattle.tracing.specs.Finding.{Noted, cells}
 use Rattle.tracing.specs.declared.scan.Scan.{Scan}
 use Rattle.directions.specs.declared.sight.Sight.{Sight}
 use Rattle.theory.specs.Modes.{Levels}
 use Rattle.tracing.proofs.Modes.{keys-bounded}
-use Rattle.tracing.proofs.Noting.{FromSide}
-use Rattle.tracing.proofs.Endings.{endedBy}
-use Rattle.tracing.proofs.Sighting.{sight-planes, sight-steps-few, sight-rows}
+use Rattle.walks.proofs.NotedStates.{FromSide}
+use Rattle.walks.proofs.Endings.{endedBy}
+use Rattle.tracing.proofs.Sighting.{sight-planes, sight-states-short, sight-steps-few, sight-rows}
 use Rattle.tracing.proofs.SeenLaws.{sideKeys, toPixel, seen-ended}
 
 -- a number and a smaller one beside its multiple are known by their sum
@@ -45,13 +46,17 @@ module _ (s : Scan) (sound : Sound s) (backwards : Bool) (x : ℕ) (r : Sight) (
   planes = s .setting .gaps + 1
 
   -- the notes of every row find room
-  pub notes-fit : (e to size : ℕ) → e < r .states → to + (s .steps + 1) * (s .setting .gaps + 1) ≤ size → NotesFit (r .plan) e to size
+  pub notes-fit :
+      (e to size : ℕ) → e < r .states → to + (s .steps + 1) * (s .setting .gaps + 1) ≤ size → to + stepsPast (r .plan) e * r .plan .planes ≤ size
   notes-fit e to size h room =
-      record {
-        fits = λ m k.
-            rw (sight-planes s sound backwards x r seen)
-            (omega (arith, rows-fit (stepsAt (r .plan) e m) 1 (s .steps + 1) planes (omega (arith, sight-steps-few s sound backwards x r seen e m h k))));
-      }
+      let few =
+      past-most (r .plan) e (s .steps + 1) (omega (arith, sight-states-short s sound backwards x r seen))
+      (λ m k. sight-steps-few s sound backwards x r seen e m h k) in
+      omega (
+        arith,
+        mul-le-mul {n₁ = stepsPast (r .plan) e} {m₁ = r .plan .planes} {n₂ = s .steps + 1} {m₂ = s .setting .gaps + 1} few
+            (omega (arith, sight-planes s sound backwards x r seen)),
+      )
 
   module _ (plate : List ℤ) (levels : Levels plate) (on : x < s .width * s .height) (to : ℕ) (old mid new : List ℕ)
       (zeros : Between (λ (q : ℕ). 0) old mid to (to + (s .steps + 1) * (s .setting .gaps + 1)))

@@ -15,12 +15,12 @@ use Rattle.frames.specs.Frames.{placeIn}
 use Rattle.frames.specs.declared.frame.Frame.{Frame}
 use Rattle.plans.specs.Forms.{wellFormed}
 use Rattle.plans.proofs.FormLaws.{well-formed-sound}
-use Rattle.plans.specs.Plans.{rowsIn, keysOf, keysSize}
+use Rattle.plans.specs.Plans.{rowsIn, keysOf, keysSize, stepsAt}
 use Rattle.plans.specs.Plans.{Sound as SoundPlan}
 use Rattle.sweeps.specs.Stacks.{KeysAre, Sequence}
 use Rattle.plans.specs.declared.plan.Plan.{Plan}
 use Rattle.directions.specs.Plans.{byRows}
-use Rattle.directions.specs.Numbers.{KeptOn, placeKept, keysBy, stepsAt}
+use Rattle.directions.specs.Numbers.{KeptOn, placeKept, keysBy}
 use Rattle.directions.specs.Doors.{spotOf, fits, lays, Laid, sightOf}
 use Rattle.directions.proofs.DoorLaws.{fits-if, lays-if}
 use Rattle.directions.proofs.SightLaws.{sight-told}
@@ -110,10 +110,16 @@ module _ (s : Scan) (sound : Sound s) (backwards : Bool) (x : ℕ) (r : Sight) (
       (seen .is-spot)
       (omega arith) (omega (arith, sound .few)) (omega arith) (omega (arith, sound .few-steps)) room (rw (seen .framed .area) h))
 
-  pub sight-states-few : r .states ≤ 1024
-  sight-states-few =
+  states-both : (r .states ≤ s .steps + 1) × (r .states ≤ 1024)
+  states-both =
       rw (seen .is-states)
-      (trace-states-few (r .frame) rows back (s .steps + 1) (s .setting .gaps + 1) (seen .spot) (omega arith) (omega (arith, sound .few-steps)) .1)
+      (trace-states-few (r .frame) rows back (s .steps + 1) (s .setting .gaps + 1) (seen .spot) (omega arith) (omega (arith, sound .few-steps)))
+
+  pub sight-states-short : r .states ≤ s .steps + 1
+  sight-states-short = states-both .0
+
+  pub sight-states-few : r .states ≤ 1024
+  sight-states-few = states-both .1
 
   pub sight-steps-few : (e m : ℕ) → e < r .states → m < rowsIn (r .plan) e → stepsAt (r .plan) e m < s .steps + 1
   sight-steps-few e m h k =

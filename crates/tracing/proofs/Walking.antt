@@ -18,15 +18,15 @@ use Rattle.directions.specs.Numbers.{placeKept}
 use Rattle.directions.proofs.RoomLaws.{Roomy}
 use Rattle.tracing.specs.Scans.{Sound, bitOf, keyOf}
 use Rattle.tracing.specs.Sights.{Seen, seenAt}
-use Rattle.tracing.specs.Following.{Within, Trail, indexAfter, lowAlong, storedAt, Picked, StepTo, Stands, Kept}
-use Rattle.tracing.specs.declared.follow.Stand.{Stand}
+use Rattle.tracing.specs.Following.{Within, Trail, indexAfter, lowAlong, Stands, Kept, EndsAt}
+use Rattle.walks.specs.Picking.{storedAt, Picked, StepTo}
+use Rattle.walks.specs.declared.stand.Stand.{Stand}
 use Rattle.tracing.specs.declared.scan.Scan.{Scan}
 use Rattle.directions.specs.declared.sight.Sight.{Sight}
 use Rattle.theory.specs.BestWalks.{under}
-use Rattle.tracing.specs.Endings.{EndsAt}
 use Rattle.theory.specs.Modes.{Levels}
 use Rattle.tracing.proofs.Inward.{Inward, inward-nearer, inward-trail, inward-few, inward-end}
-use Rattle.tracing.proofs.Picking.{picked-held}
+use Rattle.walks.proofs.Picking.{picked-held}
 use Rattle.tracing.proofs.Sighting.{sight-planes, sight-keys, sight-sequence}
 use Rattle.tracing.proofs.Nearing.{placeOf, withGaps, stand-picked, step-wanted, gap-left, nearer-stands, nearer-place}
 
@@ -109,15 +109,18 @@ module _ (s : Scan) (b : Bool) (plate : List ℤ) (x : ℕ) (r : Sight) (sound :
       pub top-held : 1 ≤ want → Holds work′ top (r .plan) (want - 1) (seenAt s b plate x r (want - 1))
       top-held some = rw top-same (top-state work′ marks′ (stack .base) (r .plan) (seenAt s b plate x r) (new .depth) want stacked (omega (arith, fetched .not-past, fetched .near)) some)
 
-      pub top-within : top + stateSize (r .plan) ≤ length work′
-      top-within =
-          omega (
-            arith,
-            top-same,
-            rows-fit (new .depth - 1) 1 (stack .places) (stateSize (r .plan)) (omega (arith, kept .fits .some)),
-            kept .fits .in-work,
-            fetched .apart .len,
-          )
+      -- behind the keys and within the work buffer
+      pub top-fits : (keysSize (r .plan) ≤ top) × (top + stateSize (r .plan) ≤ length work′)
+      top-fits = (
+        omega (arith, top-same, kept .fits .past-keys),
+        omega (
+          arith,
+          top-same,
+          rows-fit (new .depth - 1) 1 (stack .places) (stateSize (r .plan)) (omega (arith, kept .fits .some)),
+          kept .fits .in-work,
+          fetched .apart .len,
+        ),
+      )
 
   -- ---- a step nearer
 

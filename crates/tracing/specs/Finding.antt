@@ -11,10 +11,9 @@ use Rattle.plate.specs.Paths.{span}
 use Rattle.plate.specs.Opening.{levelAt}
 use Rattle.plate.specs.declared.setting.Setting.{Setting}
 use Rattle.frames.specs.Keys.{keyBy}
+use Rattle.walks.specs.declared.found.Found.{Found}
 use Rattle.tracing.specs.Following.{Leads}
 use Rattle.tracing.specs.Usable.{usable}
-use Rattle.tracing.specs.declared.find.Found.{Found}
-use Rattle.tracing.specs.declared.find.Notes.{Notes}
 use Rattle.theory.specs.BestWalks.{gapEnd, bestWalk, term}
 use Rattle.theory.specs.Walks.{around}
 
@@ -25,39 +24,6 @@ cells notes at i = getD notes (at + i) 0
 -- the best walks of 0 to m steps from x, k + 1 numbers for each
 pub record Noted (slack : ℕ) (numbers : ℕ → ℕ) (W H bit : ℕ) (backwards : Bool) (g : ℕ → ℕ) (k m x : ℕ) : Type 0 where
   pub is : (l j : ℕ) → l ≤ m → j ≤ k → numbers (l * (k + 1) + j) ≡ bestWalk slack (around backwards W H bit) g l j x
-
--- A path that has i gaps to x and the others from x on, by the notes of the one part and of the other; not above the key of x itself.
-unfoldable pub sharedAt : List ℕ → ℕ → ℕ → ℕ → ℕ → ℕ → ℕ
-sharedAt work ends goes gaps own i = min own (min (getD work (ends + i) 0) (getD work (goes + (gaps - i)) 0))
-
--- the same for a path with l steps to x
-abbrev pub termAt : List ℕ → Notes → ℕ → ℕ → ℕ → ℕ
-termAt work n own l i = sharedAt work (n .ends + l * (n .gaps + 1)) (n .goes + (n .steps - l) * (n .gaps + 1)) (n .gaps) own i
-
--- l is a number of steps to x that a path can have
-pub record Possible (steps spare rank l : ℕ) : Type 0 where
-  pub of-path : l ≤ steps
-  pub behind : l ≤ rank
-  pub ahead : rank ≤ l + spare
-
--- the new one was found by the notes of a direction
-pub record FromNotes (terms : ℕ → ℕ → ℕ) (steps gaps spare rank index : ℕ) (new : Found) : Type 0 where
-  pub is-index : new .index ≡ index
-  pub possible : Possible steps spare rank (new .before)
-  pub few : new .gaps ≤ gaps
-  pub below : new .key ≤ terms (new .before) (new .gaps)
-
--- the first n terms with l steps to x are searched: the old one stays, or a better one is found, and none of the terms is above it
-pub record RowSearched (terms : ℕ → ℕ) (n index l : ℕ) (old new : Found) : Type 0 where
-  pub not-below : old .key ≤ new .key
-  pub best : (i : ℕ) → i < n → terms i ≤ new .key
-  pub source : (new ≡ old) ⊎ ((new .index ≡ index) × (new .before ≡ l) × (new .gaps < n) × (new .key ≤ terms (new .gaps)))
-
--- the same for all possible numbers of steps below `past`
-pub record Searched (terms : ℕ → ℕ → ℕ) (steps gaps spare rank index past : ℕ) (old new : Found) : Type 0 where
-  pub not-below : old .key ≤ new .key
-  pub best : (l i : ℕ) → Possible steps spare rank l → l < past → i ≤ gaps → terms l i ≤ new .key
-  pub source : (new ≡ old) ⊎ FromNotes terms steps gaps spare rank index new
 
 -- A path through x is known by numbers: in the direction with this bit it has `before` steps to x with at most `gaps` pixels below t, and its other
 -- steps from x on with the other gaps, and may end where it does; m steps and k gaps in all, and `spare` steps less than the direction's longest paths.

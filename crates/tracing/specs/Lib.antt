@@ -1,10 +1,8 @@
 pub mod Scans
-pub mod Endings
 pub mod Sights
 pub mod Headings
 pub mod Choosing
 pub mod Following
 pub mod Usable
-pub mod Noting
 pub mod Finding
 pub mod Drawing

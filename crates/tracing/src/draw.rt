@@ -6,10 +6,10 @@ ghost use Rattle.tracing.specs.Scans.{Sound, bitOf, keyOf};
 ghost use Rattle.tracing.specs.Finding.{Attained};
 ghost use Rattle.tracing.specs.Drawing.{Drawn};
 ghost use Rattle.theory.specs.Modes.{Levels};
-use crate::find::Found;
 use crate::follow::Walk;
 use crate::follow::follow;
 use crate::scan::Scan;
+use walks::Found;
 
 // The pixel x, the walk on from it and the walk back.
 pub(crate) fn draw(

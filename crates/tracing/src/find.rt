@@ -7,7 +7,7 @@ ghost use Rattle.plate.specs.Sizes.{GoodSize};
 ghost use Rattle.tracing.specs.Scans.{Sound, keyOf};
 ghost use Rattle.engine.specs.Finishing.{Accepted};
 ghost use Rattle.tracing.specs.Usable.{usable, FirstUsable};
-ghost use Rattle.tracing.specs.Finding.{sharedAt, termAt, RowSearched, Searched, FoundIn, FoundAt, BestOf};
+ghost use Rattle.tracing.specs.Finding.{FoundIn, FoundAt, BestOf};
 ghost use Rattle.theory.specs.Ranks.{rank};
 ghost use Rattle.theory.specs.Modes.{Levels};
 use crate::heading::Heading;
@@ -15,101 +15,12 @@ use crate::heading::rank_of;
 use crate::notes::note_side;
 use crate::scan::Scan;
 use crate::scan::scan_of;
+use crate::taken::search;
 use crate::usable::is_usable;
 use plate::Setting;
-
-// A path through the picked pixel: the index of its direction, the key at which it counts, and how many
-// of its steps and of its gaps lie before the pixel.
-pub(crate) struct Found {
-    pub(crate) index: usize,
-    pub(crate) key: u16,
-    pub(crate) before: usize,
-    pub(crate) gaps: usize,
-}
-
-// The notes of a direction: where those of the walks that end at the pixel begin, where those of the
-// walks that go on from it, and how many steps and gaps a path has.
-pub(crate) struct Notes {
-    pub(crate) ends: usize,
-    pub(crate) goes: usize,
-    pub(crate) steps: usize,
-    pub(crate) gaps: usize,
-}
-
-// The paths with l steps before the pixel, for every way to share the gaps: i of them before it, by
-// the notes from `ends` on, and the others after it, by those from `goes` on.
-fn search_row(
-    work: &[u16],
-    ends: usize,
-    goes: usize,
-    gaps: usize,
-    own: u16,
-    index: usize,
-    l: usize,
-    found: Found,
-) -> Found
-    requires { ⌜ (gaps ≤ 8) × (ends + gaps < length (now work)) × (goes + gaps < length (now work)) ⌝ }
-    ensures { λ r. ⌜ RowSearched (sharedAt (now (work .entry)) ends goes gaps own) (gaps + 1) index l found r ⌝ }
-{
-    let mut best = found;
-    let mut i = 0;
-    while i < gaps + 1 {
-        let key = states::min2(own, states::min2(work[ends + i], work[goes + (gaps - i)]));
-        if key > best.key {
-            best = Found {
-                index: index,
-                key: key,
-                before: l,
-                gaps: i,
-            };
-        }
-        i += 1;
-    }
-    best
-}
-
-// All paths of a direction that can have the pixel, whose rank this is. The direction's longest paths
-// have `spare` steps more.
-pub(crate) fn search(
-    work: &[u16],
-    notes: Notes,
-    own: u16,
-    index: usize,
-    rank: usize,
-    spare: usize,
-    found: Found,
-) -> Found
-    requires { ⌜ (notes .steps < 65536) × (notes .gaps ≤ 8) × (rank ≤ notes .steps + spare) × (spare < 65536) ⌝ }
-    requires { ⌜ notes .ends + (notes .steps + 1) * (notes .gaps + 1) ≤ length (now work) ⌝ }
-    requires { ⌜ notes .goes + (notes .steps + 1) * (notes .gaps + 1) ≤ length (now work) ⌝ }
-    ensures { λ r. ⌜ Searched (termAt (now (work .entry)) notes own) (notes .steps) (notes .gaps) spare rank index (notes .steps + 1) found r ⌝ }
-{
-    let planes = notes.gaps + 1;
-    let past = least(rank, notes.steps) + 1;
-    let mut best = found;
-    let mut l = over(rank, spare);
-    while l < past {
-        let ends = notes.ends + l * planes;
-        let goes = notes.goes + (notes.steps - l) * planes;
-        best = search_row(work, ends, goes, notes.gaps, own, index, l, best);
-        l += 1;
-    }
-    best
-}
-
-// The lesser of two.
-fn least(a: usize, b: usize) -> usize
-    ensures { λ r. ⌜ r ≡ min a b ⌝ }
-{
-    if a < b { a } else { b }
-}
-
-// By how much a is more than b, 0 where it is not.
-fn over(a: usize, b: usize) -> usize
-    ensures { λ r. ⌜ r ≡ a - b ⌝ }
-{
-    if a < b { 0 } else { a - b }
-}
+use walks::Found;
+use walks::Notes;
+use walks::least;
 
 // Where the notes of the walks on from the pixel begin, after those of the walks back: room for the most
 // steps and gaps that a path can have.

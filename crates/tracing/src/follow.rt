@@ -3,28 +3,29 @@
 // are left, is at least the level.
 ghost use mathlib.Core.Path.{_≡_};
 ghost use mathlib.Core.Bool.{true, cond};
-ghost use Prim.Native.Nat.{_+_, _-_, _*_, _≤_, _<_, min};
+ghost use Prim.Native.Nat.{_+_, _-_, _*_, _≤_, _<_};
 ghost use lib.ListN.{length, getD};
 ghost use Rattle.tracing.specs.Scans.{Sound, bitOf, keyOf};
-ghost use Rattle.plans.specs.Plans.{Sound as PlanSound, rowsIn, rowAt, stateSize};
+ghost use Rattle.plans.specs.Plans.{Sound as PlanSound, rowAt};
 ghost use Rattle.directions.specs.Numbers.{KeptOn, placeKept};
 ghost use Rattle.directions.specs.Doors.{frameOf};
-ghost use Rattle.tracing.specs.Endings.{EndsAt};
 ghost use Rattle.tracing.specs.Sights.{Seen};
-ghost use Rattle.tracing.specs.Following.{Leads, Within, Trail, indexAfter, lowAlong, storedAt, Picked, JustBefore, TapTo, StepTo, OnRow, Stands, Kept, HeldFit};
+ghost use Rattle.walks.specs.Picking.{OnRow};
+ghost use Rattle.tracing.specs.Following.{Leads, Within, Trail, indexAfter, lowAlong, EndsAt, Stands, Kept, HeldFit};
 ghost use Rattle.theory.specs.Modes.{Levels};
 ghost use Rattle.theory.specs.BestWalks.{under};
-use crate::far_end::find_end;
 use crate::onward::follow_any;
 use crate::scan::Scan;
 use crate::sight::lay_keys;
 use crate::sight::sight_of;
 use crate::taken::fetch;
-use crate::taken::row_in;
+use crate::taken::find_end;
+use crate::taken::nearer;
 use crate::taken::top_of;
 use directions::Sight;
 use plans::Plan;
 use sweeps::Stack;
+use walks::Stand;
 
 // The walk that is followed: the key at which it counts, the index of the picked pixel in the path, how many
 // steps it has and how many gaps.
@@ -32,14 +33,6 @@ pub(crate) struct Walk {
     pub(crate) key: u16,
     pub(crate) start: usize,
     pub(crate) steps: usize,
-    pub(crate) gaps: usize,
-}
-
-// A pixel of a state, with the gaps that are left for it and the pixels nearer to the picked one.
-pub(crate) struct Stand {
-    pub(crate) state: usize,
-    pub(crate) row: usize,
-    pub(crate) pixel: usize,
     pub(crate) gaps: usize,
 }
 
@@ -70,7 +63,7 @@ fn place_of(scan: Scan, sight: Sight, stand: Stand) -> usize
     requires { ⌜ (sight .plan .lines ≡ sight .frame .lines) × (sight .plan .across ≡ sight .frame .across) ⌝ }
     ensures { λ r. ⌜ r ≡ placeKept (sight .frame) (sight .plan .ranked) (rowAt (sight .plan) (stand .state) (stand .row) + stand .pixel) ⌝ }
 {
-    let row = row_in(sight.plan, stand.state, stand.row);
+    let row = plans::row_of(sight.plan, stand.state, stand.row);
     directions::place_kept(
         scan.width,
         scan.height,
@@ -78,109 +71,6 @@ fn place_of(scan: Scan, sight: Sight, stand: Stand) -> usize
         sight.plan.ranked,
         row.at + stand.pixel,
     )
-}
-
-// How many states back the row is in which a step finds its number, and how many rows.
-fn states_back(y: usize) -> usize
-    ensures { λ r. ⌜ r ≡ min 1 y ⌝ }
-{
-    if y > 0 { 1 } else { 0 }
-}
-
-fn rows_back(y: usize) -> usize
-    ensures { λ r. ⌜ r ≡ min 1 (2 - y) ⌝ }
-{
-    if y < 2 { 1 } else { 0 }
-}
-
-// The pixel before `past` of a row of the state that begins at `base`, if the row has it and its number is at least
-// t; else the pixel past the last.
-fn looked(
-    work: &[u16],
-    base: usize,
-    plan: Plan,
-    state: usize,
-    row: usize,
-    past: usize,
-    gaps: usize,
-    t: u16,
-) -> Stand
-    requires { ⌜ PlanSound plan ⌝ }
-    requires { ⌜ (state < 65536) × (row < rowsIn plan state) × (gaps < plan .planes) × (base + stateSize plan ≤ length (now work)) ⌝ }
-    ensures { λ r. ⌜ Picked (JustBefore state row past) (storedAt (now (work .entry)) base plan) plan gaps t r ⌝ }
-{
-    let none = Stand {
-        state: state,
-        row: row,
-        pixel: plan.across,
-        gaps: gaps,
-    };
-    let r = row_in(plan, state, row);
-    if past <= r.lo {
-        return none;
-    }
-    if past > r.hi {
-        return none;
-    }
-    let at = base + row * (plan.planes * plan.across) + gaps * plan.across;
-    if work[at + (past - 1)] < t {
-        return none;
-    }
-    Stand {
-        state: state,
-        row: row,
-        pixel: past - 1,
-        gaps: gaps,
-    }
-}
-
-// Where the step that finds its number in row y, x pixels on less one, leads from a stand, if the number there
-// is at least t; else the pixel past the last. The state of that row begins at `base`.
-fn tapped(work: &[u16], base: usize, plan: Plan, stand: Stand, y: usize, x: usize, t: u16) -> Stand
-    requires { ⌜ (PlanSound plan) × (OnRow plan stand) ⌝ }
-    requires { ⌜ (x ≤ 2) × (base + stateSize plan ≤ length (now work)) ⌝ }
-    ensures { λ r. ⌜ Picked (TapTo stand y x) (storedAt (now (work .entry)) base plan) plan (stand .gaps) t r ⌝ }
-{
-    let none = Stand {
-        state: 0,
-        row: 0,
-        pixel: plan.across,
-        gaps: stand.gaps,
-    };
-    let older = states_back(y);
-    let upper = rows_back(y);
-    if stand.state < older {
-        return none;
-    }
-    if stand.row < upper {
-        return none;
-    }
-    looked(
-        work,
-        base,
-        plan,
-        stand.state - older,
-        stand.row - upper,
-        stand.pixel + x,
-        stand.gaps,
-        t,
-    )
-}
-
-// One step nearer to the picked pixel, by the steps of the table: to the first pixel whose number is at least t.
-fn nearer(work: &[u16], base: usize, plan: Plan, stand: Stand, t: u16) -> Stand
-    requires { ⌜ (PlanSound plan) × (OnRow plan stand) × (base + stateSize plan ≤ length (now work)) ⌝ }
-    ensures { λ r. ⌜ Picked (StepTo plan stand) (storedAt (now (work .entry)) base plan) plan (stand .gaps) t r ⌝ }
-{
-    let first = tapped(work, base, plan, stand, plan.reach.y0, plan.reach.x0, t);
-    if first.pixel < plan.across {
-        return first;
-    }
-    let second = tapped(work, base, plan, stand, plan.reach.y1, plan.reach.x1, t);
-    if second.pixel < plan.across {
-        return second;
-    }
-    tapped(work, base, plan, stand, plan.reach.y2, plan.reach.x2, t)
 }
 
 // How many states find room, up to 64.
@@ -303,7 +193,7 @@ fn follow_counted(
         wanted(plan, walk.steps + 1),
     );
     let top = top_of(plan, stack);
-    let end = find_end(work, top, plan, walk, scan.slack);
+    let end = find_end(work, top, plan, walk.steps, walk.gaps, walk.key, scan.slack);
     walk_in(
         path,
         work,

@@ -2,10 +2,11 @@
 //
 // By the span law the sizes alone tell whether there is a path. The filter's states, with walks that start
 // at the picked pixel alone (sight.rt), then give for every number of steps and gaps the best walk on from
-// it and back (notes.rt), as far as a path may end where it does (ended.rt); the two halves that fit best
-// tell the level (find.rt). Each half of the path is followed from its far end (far_end.rt) to the pixel
-// (follow.rt), each next pixel one whose number is at least the level. On a straight direction one state of
-// a side holds all of its walks; on a diagonal one they are made again from a stack of states.
+// it and back (notes.rt), as far as a path may end where it does; the two halves that fit best tell the
+// level (find.rt). Each half of the path is followed from its far end to the pixel (follow.rt), each next
+// pixel one whose number is at least the level. On a straight direction one state of a side holds all of its
+// walks; on a diagonal one they are made again from a stack of states. How a state is read is the crate
+// walks's, called where its doors are taken (taken.rt).
 ghost use mathlib.Core.Path.{_≡_};
 ghost use lib.ListN.{length};
 ghost use Rattle.plate.specs.Refusals.{traceVerdict};
@@ -14,8 +15,6 @@ ghost use Rattle.theory.specs.Trace.{Shows};
 
 mod checks;
 mod draw;
-mod ended;
-mod far_end;
 mod find;
 mod follow;
 mod heading;

@@ -1,26 +1,23 @@
-// The doors of plans, states and sweeps, called where it is known that they are taken.
+// The doors of states, sweeps and walks, called where it is known that they are taken.
 ghost use mathlib.Core.Path.{_≡_};
-ghost use mathlib.Core.Bool.{true};
+ghost use mathlib.Core.Bool.{true, false};
 ghost use Prim.Native.Nat.{ℕ, _+_, _-_, _*_, _≤_, _<_};
 ghost use lib.ListN.{length};
-ghost use Rattle.plans.specs.Plans.{Sound, rowsIn, rowLo, rowHi, rowAt, stateSize, keysSize, halfOf};
+ghost use Rattle.plans.specs.Plans.{rowsIn, stateSize, keysSize, halfOf};
 ghost use Rattle.plans.specs.Forms.{wellFormed};
 ghost use Rattle.states.specs.Runs.{Between};
 ghost use Rattle.states.specs.States.{Advanced};
 ghost use Rattle.sweeps.specs.Stacks.{StackFits, Fetched};
+ghost use Rattle.walks.specs.Endings.{endedIn};
+ghost use Rattle.walks.specs.Noting.{Lifted, FromState, stepsPast};
+ghost use Rattle.walks.specs.Picking.{storedAt, Picked, OfSteps, StepTo, OnRow};
+ghost use Rattle.walks.specs.Searching.{termAt, Searched};
 use plans::Plan;
-use plans::Row;
 use states::Stretch;
 use sweeps::Stack;
-
-// Row m of state e.
-pub(crate) fn row_in(plan: Plan, e: usize, m: usize) -> Row
-    requires { ⌜ Sound plan ⌝ }
-    requires { ⌜ (e < 65536) × (m < rowsIn plan e) ⌝ }
-    ensures { λ r. ⌜ (r .lo ≡ rowLo plan e m) × (r .hi ≡ rowHi plan e m) × (r .at ≡ rowAt plan e m) ⌝ }
-{
-    plans::row_of(plan, e, m)
-}
+use walks::Found;
+use walks::Notes;
+use walks::Stand;
 
 // The numbers of a run, all the same.
 pub(crate) fn fill_run(to: &mut [u16], at: usize, n: usize, v: u16)
@@ -78,4 +75,65 @@ pub(crate) fn top_of(plan: Plan, stack: Stack) -> usize
     ensures { λ r. ⌜ r ≡ stack .base + (stack .depth - 1) * stateSize plan ⌝ }
 {
     sweeps::top_of(plan, stack)
+}
+
+// The notes rise to all rows of state e, which stands at `base`.
+pub(crate) fn note_state(
+    notes: &mut [u16],
+    to: usize,
+    work: &[u16],
+    base: usize,
+    plan: Plan,
+    e: usize,
+    slack: u16,
+)
+    requires { ⌜ wellFormed plan ≡ true ⌝ }
+    requires { ⌜ (e < 65536) × (base ≤ 65536) × (base + stateSize plan ≤ length (now work)) × (keysSize plan ≤ base) × (to + stepsPast plan e * plan .planes ≤ length (now notes)) ⌝ }
+    ensures { λ _. ⌜ Lifted (FromState plan (endedIn (now (work .entry)) slack base plan e) to e (rowsIn plan e)) (now (notes .entry)) (now (notes .exit)) ⌝ }
+{
+    walks::note_state(notes, to, work, base, plan, e, slack);
+}
+
+// Where a walk of so many steps with so many gaps ends that counts at t.
+pub(crate) fn find_end(
+    work: &[u16],
+    base: usize,
+    plan: Plan,
+    steps: usize,
+    gaps: usize,
+    t: u16,
+    slack: u16,
+) -> Stand
+    requires { ⌜ wellFormed plan ≡ true ⌝ }
+    requires { ⌜ (steps < 65536) × (plan .ranked ≡ false → steps < rowsIn plan 0) × (gaps < plan .planes) × (keysSize plan ≤ base) × (base + stateSize plan ≤ length (now work)) ⌝ }
+    ensures { λ r. ⌜ Picked (OfSteps plan steps) (endedIn (now (work .entry)) slack base plan) plan gaps t r ⌝ }
+{
+    walks::find_end(work, base, plan, steps, gaps, t, slack)
+}
+
+// One step nearer to the picked pixel, to one whose number is at least t.
+pub(crate) fn nearer(work: &[u16], base: usize, plan: Plan, stand: Stand, t: u16) -> Stand
+    requires { ⌜ wellFormed plan ≡ true ⌝ }
+    requires { ⌜ (OnRow plan stand) × (keysSize plan ≤ base) × (base + stateSize plan ≤ length (now work)) ⌝ }
+    ensures { λ r. ⌜ Picked (StepTo plan stand) (storedAt (now (work .entry)) base plan) plan (stand .gaps) t r ⌝ }
+{
+    walks::nearer(work, base, plan, stand, t)
+}
+
+// The best of what was found and of all paths of a direction that can have the pixel.
+pub(crate) fn search(
+    work: &[u16],
+    notes: Notes,
+    own: u16,
+    index: usize,
+    rank: usize,
+    spare: usize,
+    found: Found,
+) -> Found
+    requires { ⌜ (notes .steps < 65536) × (notes .gaps ≤ 8) × (rank ≤ notes .steps + spare) × (spare < 65536) ⌝ }
+    requires { ⌜ notes .ends + (notes .steps + 1) * (notes .gaps + 1) ≤ length (now work) ⌝ }
+    requires { ⌜ notes .goes + (notes .steps + 1) * (notes .gaps + 1) ≤ length (now work) ⌝ }
+    ensures { λ r. ⌜ Searched (termAt (now (work .entry)) notes own) (notes .steps) (notes .gaps) spare rank index (notes .steps + 1) found r ⌝ }
+{
+    walks::search(work, notes, own, index, rank, spare, found)
 }

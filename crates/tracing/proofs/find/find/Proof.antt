@@ -9,7 +9,7 @@ use Rattle.tracing.specs.Finding.{BestOf, keysBy}
 use Rattle.theory.specs.Modes.{Levels}
 use Rattle.theory.specs.BestWalks.{gapEnd}
 use Rattle.tracing.proofs.Directions.{usable-long}
-use Rattle.tracing.proofs.Searching.{lowest-attained}
+use Rattle.tracing.proofs.NotedTerms.{lowest-attained}
 use Rattle.tracing.proofs.Finding.{accepted-still, best-first, best-more, best-skip}
 use Rattle.tracing.proofs.find.find.Statement.{statement}
 use Rattle.tracing.proofs.find.find.Tie as tie

@@ -7,7 +7,7 @@ use Rattle.tracing.specs.Scans.{bitOf, keyOf}
 use Rattle.tracing.proofs.Rooms.{rank-below}
 use Rattle.tracing.proofs.Modes.{key-read}
 use Rattle.tracing.proofs.SideNotes.{notes-small, noted-apart}
-use Rattle.tracing.proofs.Searching.{searched-found}
+use Rattle.tracing.proofs.NotedTerms.{searched-found}
 use Rattle.tracing.proofs.find.find_in.Statement.{statement}
 use Rattle.tracing.proofs.find.find_in.Tie as tie
 

@@ -11,7 +11,7 @@ use Rattle.sweeps.specs.declared.stack.Stack.{Stack}
 use Rattle.sweeps.proofs.StackLaws.{row-below, state-below}
 use Rattle.tracing.specs.Following.{Kept, HeldFit}
 use Rattle.tracing.proofs.Sighting.{sight-planes, sight-keys-size, sight-formed, sight-sound, sight-room, sight-states-few, sight-lays}
-use Rattle.tracing.proofs.Walking.{empty-fits, kept-empty, kept-fetched, top-held, top-within}
+use Rattle.tracing.proofs.Walking.{empty-fits, kept-empty, kept-fetched, top-held, top-fits}
 use Rattle.tracing.proofs.FarEnd.{wanted-some, end-few, end-row, end-stands, end-ends}
 use Rattle.tracing.proofs.follow.follow_counted.Statement.{statement}
 use Rattle.tracing.proofs.follow.follow_counted.Tie as tie
@@ -159,16 +159,17 @@ find-end-requires c κs =
     let a = s .args in
     let v = c .before .before .before .before .before .before .before .before .before .before .before .before .before .before .before .before .before .before .before .before .before .before .before .sight-of in
     let x = getD (a .path .now) (a .walk .start) 0 in
-    let room = sight-room (a .scan) (s .pre .0 .0) (a .backwards) x (v .result) (v .ensures) (length (a .work .now)) (s .pre .1 .0 .1) in
-    let f = c .before .before .before .before .before .before .before .fetch in (
-      sight-sound (a .scan) (s .pre .0 .0) (a .backwards) x (v .result) (v .ensures),
+    let f = c .before .before .before .before .before .before .before .fetch in
+    let top =
+    top-fits (a .scan) (a .backwards) (a .plate .now) x (v .result) (s .pre .0 .0) (v .ensures) _ _ (f .last .0) (f .last .1 .0) _ (f .result) (c .before .before .before .before .before .before .before .before .wanted .result) (few-wanted (c .before .before .before .before .before .before .before .before))
+    (start-kept (c .before .before .before .before .before .before .before .before)) (f .ensures .0 .0) (f .ensures .0 .1) (f .ensures .0 .2) (f .ensures .1 .0) (c .before .top-of .result) (c .before .top-of .ensures) in (
+      sight-formed (a .scan) (s .pre .0 .0) (a .backwards) x (v .result) (v .ensures),
       (
         omega (arith, s .pre .1 .0 .2, s .pre .0 .0 .few-steps),
         end-row (a .scan) (a .backwards) (a .plate .now) x (v .result) (s .pre .0 .0) (v .ensures) (s .pre .1 .1 .0) (a .walk .key) (a .walk .steps) (a .walk .gaps) (s .pre .0 .1) (s .pre .1 .0 .2) (s .pre .1 .0 .3) (s .pre .1 .1 .1 .1 .1),
         omega (arith, s .pre .1 .0 .3, sight-planes (a .scan) (s .pre .0 .0) (a .backwards) x (v .result) (v .ensures)),
-        top-within (a .scan) (a .backwards) (a .plate .now) x (v .result) (s .pre .0 .0) (v .ensures) _ _ (f .last .0) (f .last .1 .0) _ (f .result) (c .before .before .before .before .before .before .before .before .wanted .result) (few-wanted (c .before .before .before .before .before .before .before .before))
-            (start-kept (c .before .before .before .before .before .before .before .before)) (f .ensures .0 .0) (f .ensures .0 .1) (f .ensures .0 .2) (f .ensures .1 .0) (c .before .top-of .result) (c .before .top-of .ensures),
-        omega (arith, room .alone, f .kept .0, c .before .before .before .before .before .before .before .before .before .before .before .before .before .before .before .before .before .before .before .before .lay-keys .ensures .keys .len),
+        top .0,
+        top .1,
       ),
     )
 

@@ -2,21 +2,22 @@
 use Prim.Native.Nat.{_+_, _*_}
 use mathlib.Core.Path.{_≡_, sym, _∙_}
 use native.Mathlib.Omega.{arith}
+use Rattle.plans.proofs.RowForms.{row-told}
 use Rattle.directions.proofs.DoorLaws.{keeps-if, place-there}
 use Rattle.directions.proofs.TableLaws.{frame-told}
 use borrow.Author.Needs.{needs}
 use Rattle.tracing.proofs.follow.place_of.Statement.{statement}
 use Rattle.tracing.proofs.follow.place_of.Tie as tie
 
-row-in-requires : tie.Need-row-in-requires
-row-in-requires c κs = search needs
+row-of-requires : tie.Need-row-of-requires
+row-of-requires c κs = search needs
 
 add-place-kept : tie.Need-add-place-kept
 add-place-kept c =
     let s = c .before .before .before in
     let a = s .args in
     let on = s .pre .1 .0 .2 in
-    omega (arith, c .before .before .row-in .ensures .2, s .pre .1 .0 .1 .fits (a .stand .state) (a .stand .row) (on .row) (on .state) .keyed, on .pixel, s .pre .1 .0 .1 .few-pixels)
+    omega (arith, row-told _ _ _ _ (s .pre .1 .0 .1) (on .state) (on .row) (c .before .before .row-of .ensures) .2, s .pre .1 .0 .1 .fits (a .stand .state) (a .stand .row) (on .row) (on .state) .keyed, on .pixel, s .pre .1 .0 .1 .few-pixels)
 
 place-kept-requires : tie.Need-place-kept-requires
 place-kept-requires c κs = search needs
@@ -26,7 +27,7 @@ returns c =
     let s = c .before .before .before .before in
     let a = s .args in
     let on = s .pre .1 .0 .2 in
-    let at = c .before .before .before .row-in .ensures .2 in
+    let at = row-told _ _ _ _ (s .pre .1 .0 .1) (on .state) (on .row) (c .before .before .before .row-of .ensures) .2 in
     let kept = s .pre .1 .0 .0 in
     let frame = s .pre .0 .1 in
     let area = frame-told _ _ (s .pre .0 .0 .size) _ _ (s .pre .0 .0 .known) frame .0 .area in
@@ -40,4 +41,4 @@ returns c =
     ∙ rw (frame, at)
 
 pub place-of-spec : {M : Type 1} → statement M
-place-of-spec = tie.close (tie.spec row-in-requires add-place-kept place-kept-requires returns)
+place-of-spec = tie.close (tie.spec row-of-requires add-place-kept place-kept-requires returns)

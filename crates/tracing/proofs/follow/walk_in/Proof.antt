@@ -11,7 +11,7 @@ use Rattle.tracing.proofs.Inward.{Inward, inward-far}
 use Rattle.tracing.proofs.Modes.{key-read}
 use Rattle.tracing.proofs.Sighting.{sight-lines, sight-across, sight-formed, sight-sound, sight-states-few, sight-kept}
 use Rattle.tracing.proofs.Nearing.{placeOf, stand-row, stand-on}
-use Rattle.tracing.proofs.Walking.{kept-fetched, top-held, top-within, stand-wanted, stand-some, stand-spends, walk-on, walk-ends}
+use Rattle.tracing.proofs.Walking.{kept-fetched, top-held, top-fits, stand-wanted, stand-some, stand-spends, walk-on, walk-ends}
 use Rattle.tracing.proofs.follow.walk_in.Statement.{statement}
 use Rattle.tracing.proofs.follow.walk_in.Tie as tie
 
@@ -174,12 +174,17 @@ nearer-requires c κs =
     let w = c .before .before .before .before .before .before .before .before .before .before .before .wanted in
     let few =
     stand-wanted (a .scan) (a .backwards) (a .plate .now) x (a .sight) (s .pre .0 .0) v (s .pre .0 .2) (a .walk .key) (s .pre .0 .3) (a .path .now) (a .walk .start) (a .walk .steps)
-    (a .walk .gaps) (s .pre .1 .1 .0) (l .path) (l .stand) (l .n) (l .inv .6) in (
-      sight-sound (a .scan) (s .pre .0 .0) (a .backwards) x (a .sight) v,
-      stand-row (a .scan) (a .backwards) (a .plate .now) x (a .sight) (s .pre .0 .0) (s .pre .0 .2) v (a .walk .key) (s .pre .0 .3) (l .n) (l .stand) (l .inv .6)
-          (c .before .before .before .before .before .before .before .before .before .before .before .before .before .before .before .before .gaps-after .result) (omega (arith, c .before .before .before .before .before .before .before .before .before .before .before .before .before .before .before .before .gaps-after .ensures)),
-      top-within (a .scan) (a .backwards) (a .plate .now) x (a .sight) (s .pre .0 .0) v (l .work) (l .marks) (f .last .0) (f .last .1 .0) (l .stack) (f .result) (w .result)
-          (omega (arith, w .ensures, few)) (l .inv .5) (f .ensures .0 .0) (f .ensures .0 .1) (f .ensures .0 .2) (f .ensures .1 .0) (c .top-of .result) (c .top-of .ensures),
+    (a .walk .gaps) (s .pre .1 .1 .0) (l .path) (l .stand) (l .n) (l .inv .6) in
+    let top =
+    top-fits (a .scan) (a .backwards) (a .plate .now) x (a .sight) (s .pre .0 .0) v (l .work) (l .marks) (f .last .0) (f .last .1 .0) (l .stack) (f .result) (w .result)
+    (omega (arith, w .ensures, few)) (l .inv .5) (f .ensures .0 .0) (f .ensures .0 .1) (f .ensures .0 .2) (f .ensures .1 .0) (c .top-of .result) (c .top-of .ensures) in (
+      sight-formed (a .scan) (s .pre .0 .0) (a .backwards) x (a .sight) v,
+      (
+        stand-row (a .scan) (a .backwards) (a .plate .now) x (a .sight) (s .pre .0 .0) (s .pre .0 .2) v (a .walk .key) (s .pre .0 .3) (l .n) (l .stand) (l .inv .6)
+            (c .before .before .before .before .before .before .before .before .before .before .before .before .before .before .before .before .gaps-after .result) (omega (arith, c .before .before .before .before .before .before .before .before .before .before .before .before .before .before .before .before .gaps-after .ensures)),
+        top .0,
+        top .1,
+      ),
     )
 
 sub-n : tie.Need-sub-n Inv-loop μ-loop

@@ -3,7 +3,7 @@ use Prim.Native.Nat.{_-_, _≤_, _<_}
 use mathlib.Core.Path.{_≡_, refl, sym, _∙_}
 use native.Mathlib.Omega.{arith}
 use lib.ListN.{length}
-use Rattle.tracing.proofs.Noting.{SideNoted, side-none, side-more}
+use Rattle.walks.proofs.NotedStates.{SideNoted, side-none, side-more}
 use Rattle.tracing.proofs.Sighting.{sight-lays, sight-area, sight-keys-size, sight-room, sight-formed, sight-sound, sight-states-few, sight-keys, sight-levels, sight-sequence}
 use Rattle.tracing.proofs.SideNotes.{notes-fit, side-noted, side-apart}
 use Rattle.tracing.proofs.notes.note_side.Statement.{statement}
@@ -93,7 +93,7 @@ note-state-requires c κs =
     let few = sight-states-few (a .scan) (s .pre .0) (a .backwards) (a .x) (r .result) (r .ensures) in
     let same = c .before .before .before .before .before .before .advance .kept .0 ∙ l .inv .1 ∙ i .before .before .before .before .before .before .before .before .before .lay-keys .kept .0 in
     let e : l .e < r .result .states = c .before .before .before .before .before .before .before .before .before .before .if1 .taken in (
-      sight-sound (a .scan) (s .pre .0) (a .backwards) (a .x) (r .result) (r .ensures),
+      sight-formed (a .scan) (s .pre .0) (a .backwards) (a .x) (r .result) (r .ensures),
       (
         omega (arith, few, e),
         room .keys,

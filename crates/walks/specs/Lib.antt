@@ -1,0 +1,5 @@
+pub mod Endings
+pub mod Noting
+pub mod Picking
+pub mod Searching
+pub mod Doors
