@@ -12,7 +12,8 @@ use Rattle.basics.proofs.Lists.{getD-in}
 use Rattle.plate.specs.Paths.{next}
 use Rattle.theory.proofs.Reversal.{turn-back}
 use Rattle.theory.proofs.Recorded.{recorded-walk, low-recorded, low-split, low-same}
-use Rattle.tracing.specs.Following.{Trail, lowAlong}
+use Rattle.headings.specs.Trails.{Trail}
+use Rattle.tracing.specs.Following.{lowAlong}
 use Rattle.tracing.specs.Drawing.{Drawn}
 use Rattle.theory.proofs.Walks.{last-at}
 use Rattle.theory.specs.Walks.{Walk, around, lastOf}

@@ -12,7 +12,7 @@ use Rattle.plate.specs.declared.setting.Setting.{Setting}
 use Rattle.engine.specs.Finishing.{Accepted}
 use Rattle.tracing.specs.Scans.{Sound, ScanOf, bitOf, keyOf}
 use Rattle.tracing.specs.declared.scan.Scan.{Scan}
-use Rattle.tracing.specs.Usable.{usable, FirstUsable}
+use Rattle.headings.specs.Usable.{usable, FirstUsable}
 use Rattle.tracing.specs.Finding.{Attained, FoundIn, FoundAt, BestOf, keysBy}
 use Rattle.tracing.specs.Drawing.{Drawn}
 use Rattle.theory.specs.BestWalks.{gapEnd}
@@ -74,7 +74,7 @@ module _ (W H : ℕ) (s : Setting) (f : List ℤ) (x : ℕ) where
       }
 
   pub best-more :
-      (index : ℕ) (old new : Found) → index < 4 → usable W H s (2 ^ index) ≡ true → BestOf W H s f x index old → FoundAt W H s f x index old new →
+      (index : ℕ) (old new : Found) → index < 4 → usable W H s index ≡ true → BestOf W H s f x index old → FoundAt W H s f x index old new →
       BestOf W H s f x (index + 1) new
   best-more index old new l u b d =
       record {
@@ -86,7 +86,7 @@ module _ (W H : ℕ) (s : Setting) (f : List ℤ) (x : ℕ) where
       }
 
   -- a direction that is not usable
-  pub best-skip : (index : ℕ) (old : Found) → usable W H s (2 ^ index) ≡ false → BestOf W H s f x index old → BestOf W H s f x (index + 1) old
+  pub best-skip : (index : ℕ) (old : Found) → usable W H s index ≡ false → BestOf W H s f x index old → BestOf W H s f x (index + 1) old
   best-skip index old n b =
       record {
         listed = b .listed;

@@ -1,7 +1,7 @@
 -- A trail that is written from its far end inwards. While n steps are left, the pixels more than n steps from the picked one are written, each a step
 -- from the one before it, and the first of them is a step from the pixel that comes next; their low pixels and the gaps left are together no more than
 -- the gaps. With no steps left the pixel that comes next is the picked one, and the trail is whole. Its far end is written first, and stays.
-use Prim.Native.Nat.{ℕ, suc, _+_, _-_, _≤_, _<_}
+use Prim.Native.Nat.{ℕ, zero, suc, _+_, _-_, _≤_, _<_}
 use mathlib.Core.Path.{_≡_, refl, sym, ap, subst, _∙_}
 use mathlib.Core.Bool.{Bool, true, false}
 use mathlib.Core.List.{List, List·Memᴰ}
@@ -10,11 +10,13 @@ use native.Mathlib.Omega.{arith}
 use lib.ListN.{length, getD, set, length-set}
 use lib.Seq.{getD-set-same, getD-set-other}
 use Rattle.basics.proofs.Numbers.{le-or-lt}
+use Rattle.theory.proofs.LevelSets.{under-high}
 use Rattle.theory.proofs.Recorded.{low-last, low-same}
-use Rattle.tracing.specs.Following.{indexAfter, Within, Behind, Trail, lowAlong}
+use Rattle.headings.specs.Trails.{indexAfter, Within, Behind, Trail}
+use Rattle.tracing.specs.Following.{lowAlong}
 use Rattle.theory.specs.BestWalks.{under, lowFrom, ended}
 use Rattle.theory.specs.Walks.{around}
-use Rattle.tracing.proofs.Trails.{index-first, index-within, within-less, behind-other}
+use Rattle.headings.proofs.Trails.{index-first, index-within, within-less, behind-other}
 
 -- the low pixels more than n steps from the first one, up to m steps
 abbrev pub lowBeyond : Bool → (ℕ → ℕ) → ℕ → List ℕ → ℕ → ℕ → ℕ → ℕ
@@ -168,3 +170,14 @@ module _ (slack W H bit : ℕ) (b : Bool) (g : ℕ → ℕ) (t : ℕ) (old : Lis
       inward-few h =
           let there : getD path start 0 ≡ here = sym (ap (λ (i : ℕ). getD path i 0) (index-first b start)) ∙ first-kept in
           omega (arith, d .few, beyond-all b g t path (length old) start m within, ap (λ (q : ℕ). under t (g q)) there)
+
+-- ---- at the lowest key no pixel is low
+
+low-from-zero : (g : ℕ → ℕ) (path : List ℕ) (a n : ℕ) → lowFrom g 0 path a n ≡ 0
+unfolding lowFrom
+low-from-zero g path a zero = refl
+low-from-zero g path a (suc n) = omega (arith, under-high 0 (g (getD path a 0)) (omega arith), low-from-zero g path (suc a) n)
+
+pub low-along-zero : (b : Bool) (g : ℕ → ℕ) (path : List ℕ) (start n : ℕ) → lowAlong b g 0 path start n ≡ 0
+low-along-zero true g path start n = low-from-zero g path (start + 1 - n) n
+low-along-zero false g path start n = low-from-zero g path start n

@@ -1,13 +1,8 @@
-pub mod Rooms
-pub mod Neighbours
-pub mod Ahead
-pub mod Directions
 pub mod Modes
 pub mod Sighting
 pub mod SeenLaws
 pub mod Sources
 pub mod Nearing
-pub mod Trails
 pub mod Inward
 pub mod FarEnd
 pub mod Walking

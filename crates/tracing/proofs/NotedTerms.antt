@@ -20,7 +20,7 @@ use Rattle.tracing.specs.Finding.{Noted, Attained, FoundIn}
 use Rattle.theory.specs.Walks.{back, around}
 use Rattle.theory.specs.Ranks.{rank}
 use Rattle.theory.specs.BestWalks.{bestWalk, term}
-use Rattle.tracing.proofs.Rooms.{rank-below}
+use Rattle.headings.proofs.Rooms.{rank-below}
 
 module _ (slack W H m k spare : ℕ) (g : ℕ → ℕ) (x index : ℕ) (listed : index < 4) (on : x < W * H) (long : span W H (2 ^ index) ≡ m + spare + 1) where
   abbrev bit : ℕ

@@ -20,8 +20,8 @@ use Rattle.plate.specs.declared.call.Fills.the-variants.{Path as Places}
 use Rattle.plate.specs.declared.call.Lent.{Lent}
 use Rattle.plate.proofs.Verdicts.{clear-accepted, accepted-clear, refused-first, refused-same, refused-next, clear-both, clear-first, clear-second}
 use Rattle.plate.proofs.Calls.{call-clear, passed}
-use Rattle.tracing.specs.Usable.{FirstUsable}
-use Rattle.tracing.proofs.Directions.{usable-crosses, none-crosses}
+use Rattle.headings.specs.Usable.{FirstUsable}
+use Rattle.headings.proofs.Directions.{usable-crosses, none-crosses}
 
 module _ (W H : ℕ) (s : Setting) (plate x room work : ℕ) where
   abbrev eight : List Check
@@ -62,12 +62,12 @@ module _ (W H : ℕ) (s : Setting) (plate x room work : ℕ) where
 
       pub refused-no-path : 4 ≤ first → refused refusalNoPath 0 ≡ verdict
       refused-no-path l =
-          let e : not (crossed W H (s .directions) (s .length) x) ≡ true = rw (none-crosses W H s x on (passed-eight .long) first usable l) in
+          let e : not (crossed W H (s .directions) (s .length) x) ≡ true = rw (none-crosses W H s x (passed-eight .size) on (passed-eight .long) first usable l) in
           refused-next tt (eight ++ (place ∷ [])) crossing [] clear-nine e
 
       pub all-passed : first < 4 → accepted tt ≡ verdict
       all-passed l =
-          let e : not (crossed W H (s .directions) (s .length) x) ≡ false = rw (usable-crosses W H s x on (passed-eight .long) first usable l) in
+          let e : not (crossed W H (s .directions) (s .length) x) ≡ false = rw (usable-crosses W H s x (passed-eight .size) on (passed-eight .long) first usable l) in
           sym (clear-accepted (traceChecks W H s plate x room work) tt (clear-both (eight ++ (place ∷ [])) (crossing ∷ []) clear-nine (e, tt)))
 
   -- ---- a trace that they let pass
@@ -85,7 +85,7 @@ module _ (W H : ℕ) (s : Setting) (plate x room work : ℕ) where
         let last = clear-second eight (place ∷ crossing ∷ []) clear in
         let on : x < W * H = leb-false (W * H) x (last .0) in
         ⊎-elim
-        (λ l. absurd (true≢false (sym (ap not (none-crosses W H s x on (passed-first .long) first usable l)) ∙ last .1 .0)))
+        (λ l. absurd (true≢false (sym (ap not (none-crosses W H s x (passed-first .size) on (passed-first .long) first usable l)) ∙ last .1 .0)))
         (λ l. l) (le-or-lt 4 first)
 
 -- ---- what the trace answers

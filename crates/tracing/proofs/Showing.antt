@@ -16,6 +16,7 @@ use Rattle.plate.specs.Directions.{chosen}
 use Rattle.plate.specs.Paths.{next, crossed, span}
 use Rattle.plate.specs.Opening.{levelAt, admits, filtered}
 use Rattle.plate.specs.Refusals.{Verdict.accepted, Clear, placeCheck, pathCheck, filterChecks, traceChecks, traceVerdict}
+use Rattle.plate.specs.Sizes.{GoodSize}
 use Rattle.plate.specs.declared.setting.Setting.{Setting}
 use Rattle.plate.proofs.Verdicts.{clear-accepted, clear-first}
 use Rattle.plate.specs.Calls.{Passed}
@@ -39,9 +40,9 @@ use Rattle.theory.specs.Ranks.{rank}
 use Rattle.theory.specs.Walks.{around, back, lastOf}
 use Rattle.theory.specs.Modes.{Levels, asMode}
 use Rattle.theory.specs.BestWalks.{keyAt, gapEnd, value, term}
-use Rattle.tracing.proofs.Directions.{index-at, chosen-usable, usable-chosen}
+use Rattle.headings.proofs.Directions.{index-at, chosen-usable, usable-chosen}
 use Rattle.tracing.proofs.Modes.{keys-turned}
-use Rattle.tracing.proofs.Rooms.{rank-below}
+use Rattle.headings.proofs.Rooms.{rank-below}
 
 -- ---- what the checks say
 
@@ -78,7 +79,7 @@ module _ (W H : ℕ) (s : Setting) (plate x room work : ℕ) (clear : Clear (tra
 
 -- ---- the key found is the value
 
-module _ (W H : ℕ) (s : Setting) (f : List ℤ) (x : ℕ) (on : x < W * H) (long : 1 ≤ s .length) (r : Found) (best : BestOf W H s f x 4 r) where
+module _ (W H : ℕ) (s : Setting) (f : List ℤ) (x : ℕ) (size : GoodSize W H) (on : x < W * H) (long : 1 ≤ s .length) (r : Found) (best : BestOf W H s f x 4 r) where
   abbrev m : ℕ
   m = s .length - 1
 
@@ -105,7 +106,7 @@ module _ (W H : ℕ) (s : Setting) (f : List ℤ) (x : ℕ) (on : x < W * H) (lo
       let c′ : List·Memᴰ (2 ^ n .0) (chosen (s .directions)) = subst (λ (b : ℕ). List·Memᴰ b (chosen (s .directions))) (n .2) c in
       subst (λ (b : ℕ). min (g x) (term slack W H b m (s .gaps) g x l i) ≤ r .key) (sym (n .2))
       (⊎-elim
-      (λ a. best .best (n .0) (n .1) (chosen-usable W H s (n .0) c′ a) l i hl hi)
+      (λ a. best .best (n .0) (n .1) (chosen-usable W H s (n .0) size (n .1) c′ a) l i hl hi)
       (λ a. omega (arith, term-short (n .0) l i (n .1) a hl))
       (le-or-lt (s .length) (span W H (2 ^ n .0))))
 

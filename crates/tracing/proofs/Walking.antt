@@ -18,7 +18,8 @@ use Rattle.directions.specs.Numbers.{placeKept}
 use Rattle.directions.proofs.RoomLaws.{Roomy}
 use Rattle.tracing.specs.Scans.{Sound, bitOf, keyOf}
 use Rattle.tracing.specs.Sights.{Seen, seenAt}
-use Rattle.tracing.specs.Following.{Within, Trail, indexAfter, lowAlong, Stands, Kept, EndsAt}
+use Rattle.headings.specs.Trails.{Within, Trail, indexAfter}
+use Rattle.tracing.specs.Following.{lowAlong, Stands, Kept, EndsAt}
 use Rattle.walks.specs.Picking.{storedAt, Picked, StepTo}
 use Rattle.walks.specs.declared.stand.Stand.{Stand}
 use Rattle.tracing.specs.declared.scan.Scan.{Scan}

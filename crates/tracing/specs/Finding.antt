@@ -13,7 +13,7 @@ use Rattle.plate.specs.declared.setting.Setting.{Setting}
 use Rattle.frames.specs.Keys.{keyBy}
 use Rattle.walks.specs.declared.found.Found.{Found}
 use Rattle.tracing.specs.Following.{Leads}
-use Rattle.tracing.specs.Usable.{usable}
+use Rattle.headings.specs.Usable.{usable}
 use Rattle.theory.specs.BestWalks.{gapEnd, bestWalk, term}
 use Rattle.theory.specs.Walks.{around}
 
@@ -51,7 +51,7 @@ FoundAt W H s f x index = FoundIn (gapEnd (s .ends)) W H (s .length - 1) (s .gap
 -- the best path through x in the usable directions with an index below `past`
 pub record BestOf (W H : ℕ) (s : Setting) (f : List ℤ) (x past : ℕ) (r : Found) : Type 0 where
   pub listed : r .index < 4
-  pub is-usable : usable W H s (2 ^ r .index) ≡ true
+  pub is-usable : usable W H s (r .index) ≡ true
   pub attained : Attained (gapEnd (s .ends)) W H (s .length - 1) (s .gaps) (span W H (2 ^ r .index) - s .length) (keysBy (s .mode) f) x (2 ^ r .index) (r .key) (r .before) (r .gaps)
-  pub best : (index : ℕ) → index < past → usable W H s (2 ^ index) ≡ true → (l i : ℕ) → l ≤ s .length - 1 → i ≤ s .gaps →
+  pub best : (index : ℕ) → index < past → usable W H s index ≡ true → (l i : ℕ) → l ≤ s .length - 1 → i ≤ s .gaps →
       min (keysBy (s .mode) f x) (term (gapEnd (s .ends)) W H (2 ^ index) (s .length - 1) (s .gaps) (keysBy (s .mode) f) x l i) ≤ r .key

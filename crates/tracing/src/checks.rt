@@ -3,7 +3,7 @@
 ghost use mathlib.Core.Path.{_≡_};
 ghost use Rattle.plate.specs.Refusals.{judged, traceChecks};
 ghost use Rattle.plate.specs.Answers.{answered};
-use crate::usable::first_usable;
+use headings::first_usable;
 use plate::Answer;
 use plate::Fills;
 use plate::Lent;

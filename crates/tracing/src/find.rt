@@ -6,17 +6,16 @@ ghost use lib.ListN.{length};
 ghost use Rattle.plate.specs.Sizes.{GoodSize};
 ghost use Rattle.tracing.specs.Scans.{Sound, keyOf};
 ghost use Rattle.engine.specs.Finishing.{Accepted};
-ghost use Rattle.tracing.specs.Usable.{usable, FirstUsable};
+ghost use Rattle.headings.specs.Usable.{usable, FirstUsable};
 ghost use Rattle.tracing.specs.Finding.{FoundIn, FoundAt, BestOf};
 ghost use Rattle.theory.specs.Ranks.{rank};
 ghost use Rattle.theory.specs.Modes.{Levels};
-use crate::heading::Heading;
-use crate::heading::rank_of;
 use crate::notes::note_side;
 use crate::scan::Scan;
 use crate::scan::scan_of;
 use crate::taken::search;
-use crate::usable::is_usable;
+use headings::is_usable;
+use headings::rank_of;
 use plate::Setting;
 use walks::Found;
 use walks::Notes;
@@ -33,13 +32,6 @@ fn find_in(work: &mut [u16], plate: &[i16], scan: Scan, x: usize, found: Found) 
     ensures { λ r. ⌜ FoundIn (scan .slack) (scan .width) (scan .height) (scan .steps) (scan .setting .gaps) (scan .spare) (keyOf scan (now (plate .entry))) x (scan .index) found r ⌝ }
     ensures { λ _. ⌜ Levels (now (plate .entry)) ⌝ }
 {
-    let heading = Heading {
-        width: scan.width,
-        height: scan.height,
-        index: scan.index,
-        longest: scan.steps + scan.spare + 1,
-        backwards: true,
-    };
     let both = Notes {
         ends: 0,
         goes: GOES,
@@ -47,7 +39,7 @@ fn find_in(work: &mut [u16], plate: &[i16], scan: Scan, x: usize, found: Found) 
         gaps: scan.setting.gaps,
     };
     let own = frames::key_by(scan.setting.mode, plate[x]);
-    let rank = rank_of(heading, x);
+    let rank = rank_of(scan.width, scan.height, scan.index, x);
     let mut notes = [0u16; 18432];
     note_side(&mut notes, 0, work, plate, scan, true, x);
     note_side(&mut notes, GOES, work, plate, scan, false, x);
@@ -66,7 +58,7 @@ fn find_at(
     found: Found,
 ) -> Found
     requires { ⌜ Accepted width height setting (length (now plate)) (width * height) (length (now work)) ⌝ }
-    requires { ⌜ (x < width * height) × (index < 4) × (usable width height setting (2 ^ index) ≡ true) ⌝ }
+    requires { ⌜ (x < width * height) × (index < 4) × (usable width height setting index ≡ true) ⌝ }
     ensures { λ r. ⌜ FoundAt width height setting (now (plate .entry)) x index found r ⌝ }
     ensures { λ _. ⌜ Levels (now (plate .entry)) ⌝ }
 {
@@ -78,20 +70,13 @@ fn find_at(
 // A path in a usable direction, at the lowest key, where each counts.
 fn lowest(width: usize, height: usize, setting: Setting, index: usize, x: usize) -> Found
     requires { ⌜ (GoodSize width height) × (1 ≤ setting .length) ⌝ }
-    requires { ⌜ (x < width * height) × (index < 4) × (usable width height setting (2 ^ index) ≡ true) ⌝ }
+    requires { ⌜ (x < width * height) × (index < 4) × (usable width height setting index ≡ true) ⌝ }
     ensures { λ r. ⌜ (r .index ≡ index) × (r .key ≡ 0) × (r .before ≡ min (rank width height (2 ^ index) x) (setting .length - 1)) × (r .gaps ≡ 0) ⌝ }
 {
-    let heading = Heading {
-        width: width,
-        height: height,
-        index: index,
-        longest: plate::span_of(width, height, index),
-        backwards: true,
-    };
     Found {
         index: index,
         key: 0,
-        before: least(rank_of(heading, x), setting.length - 1),
+        before: least(rank_of(width, height, index, x), setting.length - 1),
         gaps: 0,
     }
 }

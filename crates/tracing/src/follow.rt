@@ -2,7 +2,7 @@
 // counts ends, step by step nearer to the picked one. A neighbour is taken whose number, with the gaps that
 // are left, is at least the level.
 ghost use mathlib.Core.Path.{_≡_};
-ghost use mathlib.Core.Bool.{true, cond};
+ghost use mathlib.Core.Bool.{cond};
 ghost use Prim.Native.Nat.{_+_, _-_, _*_, _≤_, _<_};
 ghost use lib.ListN.{length, getD};
 ghost use Rattle.tracing.specs.Scans.{Sound, bitOf, keyOf};
@@ -11,10 +11,10 @@ ghost use Rattle.directions.specs.Numbers.{KeptOn, placeKept};
 ghost use Rattle.directions.specs.Doors.{frameOf};
 ghost use Rattle.tracing.specs.Sights.{Seen};
 ghost use Rattle.walks.specs.Picking.{OnRow};
-ghost use Rattle.tracing.specs.Following.{Leads, Within, Trail, indexAfter, lowAlong, EndsAt, Stands, Kept, HeldFit};
+ghost use Rattle.headings.specs.Trails.{Within, Trail, indexAfter};
+ghost use Rattle.tracing.specs.Following.{Leads, lowAlong, EndsAt, Stands, Kept, HeldFit};
 ghost use Rattle.theory.specs.Modes.{Levels};
 ghost use Rattle.theory.specs.BestWalks.{under};
-use crate::onward::follow_any;
 use crate::scan::Scan;
 use crate::sight::lay_keys;
 use crate::sight::sight_of;
@@ -23,6 +23,8 @@ use crate::taken::find_end;
 use crate::taken::nearer;
 use crate::taken::top_of;
 use directions::Sight;
+use headings::follow_any;
+use headings::index_after;
 use plans::Plan;
 use sweeps::Stack;
 use walks::Stand;
@@ -42,18 +44,6 @@ fn gaps_after(key: u16, t: u16, left: usize) -> usize
     ensures { λ r. ⌜ r ≡ left - under t key ⌝ }
 {
     if key < t { left - 1 } else { left }
-}
-
-// The index of the pixel so many steps from the picked one.
-pub(crate) fn index_after(start: usize, steps: usize, backwards: bool) -> usize
-    requires { ⌜ (backwards ≡ true → steps ≤ start) × (start < 65536) × (steps < 65536) ⌝ }
-    ensures { λ r. ⌜ r ≡ indexAfter backwards start steps ⌝ }
-{
-    if backwards {
-        start - steps
-    } else {
-        start + steps
-    }
 }
 
 // The place of the pixel where a stand is.
@@ -231,7 +221,15 @@ pub(crate) fn follow(
     ensures { λ _. ⌜ EndsAt scan (now (plate .entry)) (walk .key) (getD (now (path .exit)) (indexAfter backwards (walk .start) (walk .steps)) 0) ⌝ }
 {
     if walk.key == 0 {
-        follow_any(path, scan, backwards, walk.start, walk.steps);
+        follow_any(
+            path,
+            scan.width,
+            scan.height,
+            scan.index,
+            backwards,
+            walk.start,
+            walk.steps,
+        );
         return;
     }
     follow_counted(path, work, plate, scan, backwards, walk);

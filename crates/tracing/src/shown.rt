@@ -6,11 +6,11 @@ ghost use Rattle.plate.specs.Opening.{levelAt, filtered};
 ghost use Rattle.plate.specs.Refusals.{Verdict.accepted, Clear, traceChecks};
 ghost use Rattle.plate.specs.Answers.{tracedLevel, traceAfter};
 ghost use Rattle.theory.specs.Trace.{Shows};
-ghost use Rattle.tracing.specs.Usable.{FirstUsable};
+ghost use Rattle.headings.specs.Usable.{FirstUsable};
 use crate::draw::draw;
 use crate::find::find;
 use crate::scan::scan_of;
-use crate::usable::bit_of;
+use headings::bit_of;
 use plate::Setting;
 use plate::Traced;
 

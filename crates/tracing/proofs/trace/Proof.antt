@@ -1,11 +1,11 @@
 -- `trace` meets its contract: `judge_trace` has decided before the first store, so that a refusal leaves both lent buffers as they were; and once all
 -- checks have passed there is a direction to look in, and a path is shown.
-use mathlib.Core.Path.{_≡_, refl, sym, ap, _∙_}
+use mathlib.Core.Path.{refl, sym, ap, _∙_}
 use borrow.Author.Needs.{needs}
 use lib.ListN.{length}
 use Rattle.plate.specs.Refusals.{Clear, traceChecks}
 use Rattle.plate.specs.Answers.{answered}
-use Rattle.tracing.proofs.Refusing.{let-pass, passed-first, has-direction, trace-refused, trace-accepted}
+use Rattle.tracing.proofs.Refusing.{let-pass, has-direction, trace-refused, trace-accepted}
 use Rattle.tracing.proofs.trace.Statement.{statement}
 use Rattle.tracing.proofs.trace.Tie as tie
 
@@ -27,7 +27,7 @@ enum-told : tie.Need-enum-told
 enum-told c = search needs
 
 first-usable-requires : tie.Need-first-usable-requires
-first-usable-requires c κs = passed-first _ _ _ _ _ _ _ (clear c) .size
+first-usable-requires c κs = search needs
 
 find-and-draw-requires : tie.Need-find-and-draw-requires
 find-and-draw-requires c κs =

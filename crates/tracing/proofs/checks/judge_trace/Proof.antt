@@ -40,7 +40,7 @@ returns-2 : tie.Need-returns-2
 returns-2 c = refused-place _ _ _ _ _ _ _ (call (c .before)) (omega (arith, eight (c .before) .plate-size, c .if1 .taken))
 
 first-usable-requires : tie.Need-first-usable-requires
-first-usable-requires c κs = eight (c .before) .size
+first-usable-requires c κs = search needs
 
 returns-3 : tie.Need-returns-3
 returns-3 c =

@@ -8,7 +8,7 @@ use Rattle.plate.specs.Paths.{span}
 use Rattle.tracing.specs.Finding.{BestOf, keysBy}
 use Rattle.theory.specs.Modes.{Levels}
 use Rattle.theory.specs.BestWalks.{gapEnd}
-use Rattle.tracing.proofs.Directions.{usable-long}
+use Rattle.headings.proofs.Directions.{usable-long}
 use Rattle.tracing.proofs.NotedTerms.{lowest-attained}
 use Rattle.tracing.proofs.Finding.{accepted-still, best-first, best-more, best-skip}
 use Rattle.tracing.proofs.find.find.Statement.{statement}
@@ -56,10 +56,7 @@ loop-holds c =
     )
 
 is-usable-requires : tie.Need-is-usable-requires Inv-loop μ-loop
-is-usable-requires c κs =
-    let s = c .before .before .before .before .before .before .before .before in
-    let a = s .args in
-    (s .pre .0 .size, c .loop-test .taken)
+is-usable-requires c κs = tt
 
 find-at-requires-2 : tie.Need-find-at-requires-2 Inv-loop μ-loop
 find-at-requires-2 c κs =

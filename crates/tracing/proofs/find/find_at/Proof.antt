@@ -3,7 +3,7 @@ use mathlib.Core.Path.{sym, _∙_}
 use native.Mathlib.Omega.{arith}
 use borrow.Author.Needs.{needs}
 use Rattle.plate.proofs.Spans.{span-good, span-bound}
-use Rattle.tracing.proofs.Directions.{usable-long}
+use Rattle.headings.proofs.Directions.{usable-long}
 use Rattle.tracing.proofs.Finding.{scan-pixels, scan-room, scan-found}
 use Rattle.tracing.proofs.find.find_at.Statement.{statement}
 use Rattle.tracing.proofs.find.find_at.Tie as tie

@@ -1,11 +1,12 @@
 -- `follow` meets its contract: at the lowest key no pixel is low, and any path will do.
 use Prim.Native.Nat.{ℕ, _+_}
-use mathlib.Core.Path.{_≡_, ap}
+use mathlib.Core.Path.{_≡_, ap, _∙_}
 use native.Mathlib.Omega.{arith}
 use borrow.Author.Needs.{needs}
 use Rattle.tracing.specs.Scans.{keyOf}
 use Rattle.tracing.specs.Following.{lowAlong}
-use Rattle.tracing.proofs.Trails.{low-along-zero}
+use Rattle.headings.proofs.DoorTests.{goes-if}
+use Rattle.tracing.proofs.Inward.{low-along-zero}
 use Rattle.tracing.proofs.follow.follow.Statement.{statement}
 use Rattle.tracing.proofs.follow.follow.Tie as tie
 
@@ -22,7 +23,12 @@ returns c =
     let f = c .before .before .follow-any in
     let low : ℕ → ℕ = λ t. lowAlong (a .backwards) (keyOf (a .scan) (a .plate .now)) t (f .last .0) (a .walk .start) (a .walk .steps + 1) in
     let none : low 0 ≡ 0 = low-along-zero (a .backwards) (keyOf (a .scan) (a .plate .now)) (f .last .0) (a .walk .start) (a .walk .steps + 1) in
-    (f .ensures, (omega (arith, none, ap low (c .before .before .before .before .if1 .taken)), omega (arith, c .before .before .before .before .if1 .taken)))
+    let leads = s .pre .1 .1 .1 .1 .1 in
+    let goes =
+    f .ensures .0
+    ∙ goes-if (a .scan .width) (a .scan .height) (a .scan .index) (a .backwards) (a .walk .start) (a .walk .steps) (a .path .now) (s .pre .1 .1 .1 .0 .0) (s .pre .1 .1 .1 .0 .1)
+    (s .pre .1 .1 .1 .1 .0) (record { size = s .pre .0 .size; known = s .pre .0 .known; on = leads .on }) (leads .roomy) in
+    (rw goes at (f .ensures .1), (omega (arith, none, ap low (c .before .before .before .before .if1 .taken)), omega (arith, c .before .before .before .before .if1 .taken)))
 
 follow-counted-requires : tie.Need-follow-counted-requires
 follow-counted-requires c κs = search needs

@@ -1,5 +1,5 @@
 -- `place_of` meets its contract: the key of the pixel stands in its row.
-use Prim.Native.Nat.{_+_, _*_}
+use Prim.Native.Nat.{_*_}
 use mathlib.Core.Path.{_≡_, sym, _∙_}
 use native.Mathlib.Omega.{arith}
 use Rattle.plans.proofs.RowForms.{row-told}

@@ -1,12 +1,13 @@
 -- `walk_in` meets its contract: before each turn the trail is written as far as the stand, from which the walks that are left count.
-use Prim.Native.Nat.{ℕ, _-_, _≤_}
+use Prim.Native.Nat.{ℕ, _-_, _≤_, _<_}
 use mathlib.Core.Path.{_≡_, refl, ap, _∙_}
 use native.Mathlib.Omega.{arith}
 use lib.ListN.{length, getD}
 use Rattle.tracing.specs.Scans.{bitOf, keyOf}
+use Rattle.headings.specs.Trails.{Within, indexAfter}
 use Rattle.tracing.specs.Following.{Stands, Kept}
 use Rattle.theory.specs.BestWalks.{under}
-use Rattle.tracing.proofs.Trails.{index-within, within-less, within-back, within-few}
+use Rattle.headings.proofs.Trails.{index-within, within-less, within-few, index-there}
 use Rattle.tracing.proofs.Inward.{Inward, inward-far}
 use Rattle.tracing.proofs.Modes.{key-read}
 use Rattle.tracing.proofs.Sighting.{sight-lines, sight-across, sight-formed, sight-sound, sight-states-few, sight-kept}
@@ -66,31 +67,36 @@ place-of-requires c κs =
     )
 
 index-after-requires : tie.Need-index-after-requires Inv-loop μ-loop
-index-after-requires c κs =
-    let s = c .before .before .before .before .before .before .before .before .before in
-    let a = s .args in
-    let n = c .before .before .loop .n in
-    let w = within-less (a .backwards) (length (a .path .now)) (a .walk .start) (a .walk .steps) n (s .pre .1 .1 .0) (c .before .before .loop .inv .0) in (
-      λ e. within-back (a .backwards) (length (a .path .now)) (a .walk .start) n w e,
-      omega (arith, s .pre .1 .0),
-      omega (arith, s .pre .1 .0, within-few (a .backwards) (length (a .path .now)) (a .walk .start) n w),
-    )
+index-after-requires c κs = tt
+
+-- the index that is written
+module _ (c : tie.After-index-after Inv-loop μ-loop) where
+  abbrev start : tie.Start Inv-loop μ-loop
+  start = c .before .before .before .before .before .before .before .before .before .before
+
+  abbrev left : ℕ
+  left = c .before .before .before .loop .n
+
+  within : Within (start .args .backwards) (length (start .args .path .now)) (start .args .walk .start) left
+  within =
+      within-less (start .args .backwards) (length (start .args .path .now)) (start .args .walk .start) (start .args .walk .steps) left (start .pre .1 .1 .0)
+      (c .before .before .before .loop .inv .0)
+
+  is-index : c .index-after .result ≡ indexAfter (start .args .backwards) (start .args .walk .start) left
+  is-index =
+      let few = start .pre .1 .0 in
+      c .index-after .ensures
+      ∙ index-there (start .args .backwards) (start .args .walk .start) left (omega (arith, few))
+      (omega (arith, few, within-few (start .args .backwards) (length (start .args .path .now)) (start .args .walk .start) left within))
+
+  in-path : c .index-after .result < length (start .args .path .now)
+  in-path = omega (arith, is-index, index-within (start .args .backwards) (length (start .args .path .now)) (start .args .walk .start) left within)
 
 mul-path : tie.Need-mul-path Inv-loop μ-loop
-mul-path c =
-    let s = c .before .before .before .before .before .before .before .before .before .before in
-    let a = s .args in
-    let n = c .before .before .before .loop .n in
-    let w = within-less (a .backwards) (length (a .path .now)) (a .walk .start) (a .walk .steps) n (s .pre .1 .1 .0) (c .before .before .before .loop .inv .0) in
-    omega (arith, c .index-after .ensures, index-within (a .backwards) (length (a .path .now)) (a .walk .start) n w, s .pre .1 .0)
+mul-path c = omega (arith, in-path c, start c .pre .1 .0)
 
 slice-write-path : tie.Need-slice-write-path Inv-loop μ-loop
-slice-write-path c =
-    let s = c .before .before .before .before .before .before .before .before .before .before in
-    let a = s .args in
-    let n = c .before .before .before .loop .n in
-    let w = within-less (a .backwards) (length (a .path .now)) (a .walk .start) (a .walk .steps) n (s .pre .1 .1 .0) (c .before .before .before .loop .inv .0) in
-    omega (arith, c .index-after .ensures, index-within (a .backwards) (length (a .path .now)) (a .walk .start) n w, c .before .before .before .loop .inv .7 .len)
+slice-write-path c = omega (arith, in-path c, c .before .before .before .loop .inv .7 .len)
 
 mul-key-by : tie.Need-mul-key-by Inv-loop μ-loop
 mul-key-by c =
@@ -227,7 +233,7 @@ loop-again c =
     walk-on (a .scan) (a .backwards) (a .plate .now) x (a .sight) (s .pre .0 .0) v (s .pre .0 .2) (a .walk .key) (s .pre .0 .3) (a .path .now) (a .walk .start) (a .walk .steps)
     (a .walk .gaps) (s .pre .1 .1 .0) (l .path) (l .stand) (l .n) on (l .inv .6) (l .inv .0) (l .inv .7) (c .before .before .before .before .before .before .before .before .before .before .before .before .before .before .before .before .before .gaps-after .result)
     (c .before .before .before .before .before .before .before .before .before .before .before .before .before .before .before .before .before .gaps-after .ensures ∙ ap (λ (k : ℕ). l .stand .gaps - under (a .walk .key) k) key) (f .last .0) (c .before .top-of .result) (w .result) (w .ensures) held (c .nearer .result)
-    (c .nearer .ensures) (c .before .before .before .before .before .before .before .before .before .before .before .before .before .before .before .before .before .before .before .before .index-after .result) (place .result) (c .before .before .before .before .before .before .before .before .before .before .before .before .before .before .before .before .before .before .before .before .index-after .ensures) (place .ensures) in (
+    (c .nearer .ensures) (c .before .before .before .before .before .before .before .before .before .before .before .before .before .before .before .before .before .before .before .before .index-after .result) (place .result) (is-index (c .before .before .before .before .before .before .before .before .before .before .before .before .before .before .before .before .before .before .before .before)) (place .ensures) in (
       omega (arith, l .inv .0),
       f .kept .0 ∙ l .inv .1,
       f .kept .1 .0 ∙ l .inv .2,

@@ -7,7 +7,7 @@ use mir.Syntax.{w16}
 use mir.ValLaws.{toZ-ofZ}
 use Rattle.plate.specs.Refusals.{Verdict.accepted}
 use Rattle.plate.proofs.Spans.{span-good, span-bound}
-use Rattle.tracing.proofs.Directions.{usable-long}
+use Rattle.headings.proofs.Directions.{bit-there, usable-long}
 use Rattle.tracing.proofs.Modes.{level-turned}
 use Rattle.tracing.proofs.Finding.{scan-pixels, scan-room, scan-attained, scan-drawn}
 use Rattle.tracing.proofs.Showing.{clear-long, clear-plate, clear-path, clear-on, clear-accepted-sizes, level-found, path-shown}
@@ -80,14 +80,15 @@ returns c =
     let d = c .before .before .before .before .before .before .draw in
     let v = c .level-by in
     let long = clear-long (a .width) (a .height) (a .setting) (length (a .plate .now)) (a .x) (length (a .path .now)) (length (a .work .now)) (s .pre .0) in
+    let size = clear-accepted-sizes (a .width) (a .height) (a .setting) (length (a .plate .now)) (a .x) (length (a .path .now)) (length (a .work .now)) (s .pre .0) .size in
     let on = clear-on (a .width) (a .height) (a .setting) (length (a .plate .now)) (a .x) (length (a .path .now)) (length (a .work .now)) (s .pre .0) in
     let exact = clear-plate (a .width) (a .height) (a .setting) (length (a .plate .now)) (a .x) (length (a .path .now)) (length (a .work .now)) (s .pre .0) in
     let is-level = toZ-ofZ w16 (v .result) (record { sfits = v .ok }) ∙ v .ensures ∙ level-turned (a .setting) (f .result .key) in
     let path =
     scan-drawn (r .result) (a .width) (a .height) (a .setting) (f .result .index) (r .ensures .0) (r .ensures .1) long (a .plate .now) (a .x) (f .result .key) (d .last .0) (d .ensures) in (
-      ap accepted (is-level ∙ sym (level-found (a .width) (a .height) (a .setting) (a .plate .now) (a .x) on long (f .result) (f .ensures .0) exact (f .ensures .1))),
-      rw (is-level, c .before .bit-of .ensures .0)
-          (path-shown (a .width) (a .height) (a .setting) (a .plate .now) (a .x) on long (f .result) (f .ensures .0) exact (f .ensures .1) (d .last .0) path
+      ap accepted (is-level ∙ sym (level-found (a .width) (a .height) (a .setting) (a .plate .now) (a .x) size on long (f .result) (f .ensures .0) exact (f .ensures .1))),
+      rw (is-level, c .before .bit-of .ensures .0 ∙ bit-there (f .result .index) (f .ensures .0 .listed))
+          (path-shown (a .width) (a .height) (a .setting) (a .plate .now) (a .x) size on long (f .result) (f .ensures .0) exact (f .ensures .1) (d .last .0) path
           (length (a .path .now)) (length (a .work .now)) (s .pre .0)),
     )
 

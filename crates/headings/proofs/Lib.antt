@@ -1,0 +1,6 @@
+pub mod Rooms
+pub mod Neighbours
+pub mod Trails
+pub mod Ahead
+pub mod Directions
+pub mod DoorTests

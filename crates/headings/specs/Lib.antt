@@ -1,0 +1,5 @@
+pub mod Headings
+pub mod Choosing
+pub mod Usable
+pub mod Trails
+pub mod Doors
