@@ -1,5 +1,5 @@
-// The doors: the rank of a pixel, and a path from one that has room for it, where the plate has such a direction and
-// the path buffer the indices; else nothing is written.
+// The doors: the rank of a pixel, and a path from one that has room for it, where the plate has such a
+// direction and the path buffer the indices; else nothing is written.
 ghost use mathlib.Core.Path.{_≡_};
 ghost use Prim.Native.Nat.{_^_};
 ghost use Rattle.basics.specs.Cases.{either};

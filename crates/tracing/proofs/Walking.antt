@@ -170,10 +170,6 @@ module _ (s : Scan) (b : Bool) (plate : List ℤ) (x : ℕ) (r : Sight) (sound :
           (placeOf r to) (to .gaps) h inward (nearer-place s b plate x r sound levels view t positive (suc k) stand d k refl left is-left to seen-picked)
           (omega (arith, seen-picked .is-gaps, gap-left s b plate x r sound levels view t positive (suc k) stand d k refl)))
 
-    pub stand-spends : (n : ℕ) → 0 < n → Stands s b plate x r t n stand → under t (keyOf s plate (placeOf r stand)) ≤ stand .gaps
-    stand-spends zero l d = absurd (omega arith)
-    stand-spends (suc k) l d = gap-left s b plate x r sound levels view t positive (suc k) stand d k refl
-
     -- the same with any number of steps left
     pub walk-on :
         (n : ℕ) → 0 < n → Stands s b plate x r t n stand → n ≤ m →

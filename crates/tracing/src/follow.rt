@@ -14,7 +14,6 @@ ghost use Rattle.walks.specs.Picking.{OnRow};
 ghost use Rattle.headings.specs.Trails.{Within, Trail, indexAfter};
 ghost use Rattle.tracing.specs.Following.{Leads, lowAlong, EndsAt, Stands, Kept, HeldFit};
 ghost use Rattle.theory.specs.Modes.{Levels};
-ghost use Rattle.theory.specs.BestWalks.{under};
 use crate::scan::Scan;
 use crate::sight::lay_keys;
 use crate::sight::sight_of;
@@ -28,6 +27,7 @@ use headings::index_after;
 use plans::Plan;
 use sweeps::Stack;
 use walks::Stand;
+use walks::gaps_after;
 
 // The walk that is followed: the key at which it counts, the index of the picked pixel in the path, how many
 // steps it has and how many gaps.
@@ -36,14 +36,6 @@ pub(crate) struct Walk {
     pub(crate) start: usize,
     pub(crate) steps: usize,
     pub(crate) gaps: usize,
-}
-
-// The gaps that are left after a pixel with this key, on a path that counts at t.
-fn gaps_after(key: u16, t: u16, left: usize) -> usize
-    requires { ⌜ under t key ≤ left ⌝ }
-    ensures { λ r. ⌜ r ≡ left - under t key ⌝ }
-{
-    if key < t { left - 1 } else { left }
 }
 
 // The place of the pixel where a stand is.

@@ -5,8 +5,9 @@
 // it and back (notes.rt), as far as a path may end where it does; the two halves that fit best tell the
 // level (find.rt). Each half of the path is followed from its far end to the pixel (follow.rt), each next
 // pixel one whose number is at least the level. On a straight direction one state of a side holds all of its
-// walks; on a diagonal one they are made again from a stack of states. How a state is read is the crate
-// walks's, called where its doors are taken (taken.rt).
+// walks; on a diagonal one they are made again from a stack of states.
+//
+// What is read off a state is told by the crate walks, and what needs sizes and places alone by headings.
 ghost use mathlib.Core.Path.{_≡_};
 ghost use lib.ListN.{length};
 ghost use Rattle.plate.specs.Refusals.{traceVerdict};

@@ -3,11 +3,25 @@
 ghost use mathlib.Core.Path.{_≡_};
 ghost use Prim.Native.Nat.{_+_, _-_, _≤_, _<_, min};
 ghost use lib.ListN.{length};
+ghost use Rattle.theory.specs.BestWalks.{under};
 ghost use Rattle.plans.specs.Plans.{Sound, rowsIn, stateSize};
 ghost use Rattle.walks.specs.Picking.{storedAt, Picked, JustBefore, TapTo, StepTo, OnRow};
 use crate::stand::Stand;
 use crate::taken::row_in;
 use plans::Plan;
+
+// The gaps that are left after a pixel with this key, on a path that counts at t; 0 where none was left.
+pub fn gaps_after(key: u16, t: u16, left: usize) -> usize
+    ensures { λ r. ⌜ r ≡ left - under t key ⌝ }
+{
+    if key >= t {
+        return left;
+    }
+    if left == 0 {
+        return 0;
+    }
+    left - 1
+}
 
 // How many states back the row is in which a step finds its number, and how many rows.
 fn states_back(y: usize) -> usize

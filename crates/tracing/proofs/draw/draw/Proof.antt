@@ -1,9 +1,13 @@
 -- `draw` meets its contract: the pixel is set, and the two trails from it make one walk.
-use mathlib.Core.Path.{_∙_}
+use Prim.Native.Nat.{ℕ, _-_}
+use mathlib.Core.Path.{sym, subst, _∙_}
+use mathlib.Core.Bool.{false}
 use native.Mathlib.Omega.{arith}
 use borrow.Author.Needs.{needs}
 use lib.ListN.{set, length-set}
 use lib.Seq.{getD-set-same}
+use Rattle.tracing.specs.Scans.{bitOf, keyOf}
+use Rattle.tracing.specs.Following.{Leads}
 use Rattle.tracing.proofs.Drawing.{drawn}
 use Rattle.tracing.proofs.draw.draw.Statement.{statement}
 use Rattle.tracing.proofs.draw.draw.Tie as tie
@@ -33,7 +37,13 @@ follow-requires c κs =
           s .pre .1 .1 .0,
           (
             (simp length-set (omega (arith, s .pre .1 .0, s .pre .0 .short)), simp length-set (omega (arith, s .pre .1 .0, t .of-path))),
-            (simp length-set (omega (arith, s .pre .1 .0, t .of-path)), rw here (t .from-x)),
+            (
+              simp length-set (omega (arith, s .pre .1 .0, t .of-path)),
+              subst
+                  (λ (p : ℕ). Leads (a .scan .slack) (a .scan .width) (a .scan .height) (bitOf (a .scan)) false (keyOf (a .scan) (a .plate .now)) (a .found .key) (a .scan .spare)
+                  (a .scan .steps - a .found .before) (a .scan .setting .gaps - a .found .gaps) p)
+                  (sym here) (t .from-x),
+            ),
           ),
         ),
       ),

@@ -12,7 +12,7 @@ use Rattle.tracing.proofs.Inward.{Inward, inward-far}
 use Rattle.tracing.proofs.Modes.{key-read}
 use Rattle.tracing.proofs.Sighting.{sight-lines, sight-across, sight-formed, sight-sound, sight-states-few, sight-kept}
 use Rattle.tracing.proofs.Nearing.{placeOf, stand-row, stand-on}
-use Rattle.tracing.proofs.Walking.{kept-fetched, top-held, top-fits, stand-wanted, stand-some, stand-spends, walk-on, walk-ends}
+use Rattle.tracing.proofs.Walking.{kept-fetched, top-held, top-fits, stand-wanted, stand-some, walk-on, walk-ends}
 use Rattle.tracing.proofs.follow.walk_in.Statement.{statement}
 use Rattle.tracing.proofs.follow.walk_in.Tie as tie
 
@@ -122,20 +122,7 @@ key-by-requires : tie.Need-key-by-requires Inv-loop μ-loop
 key-by-requires c κs = tt
 
 gaps-after-requires : tie.Need-gaps-after-requires Inv-loop μ-loop
-gaps-after-requires c κs =
-    let s = c .before .before .before .before .before .before .before .before .before .before .before .before in
-    let a = s .args in
-    let x = getD (a .path .now) (a .walk .start) 0 in
-    let l = c .before .before .before .before .before .loop in
-    let place = c .before .before .before .place-of in
-    let on = stand-on (a .scan) (a .backwards) (a .plate .now) x (a .sight) (s .pre .0 .0) (s .pre .0 .2) (s .pre .1 .1 .1 .0 .1) (a .walk .key) (s .pre .0 .3) (l .n) (l .stand) (l .inv .6) in
-    let key = key-read (a .scan) (a .plate .now) (place .result) (c .key-by .result) (c .before .key-by-arg .given) (omega (arith, on, place .ensures, s .pre .0 .1)) (c .key-by .ensures) in
-    omega (
-      arith,
-      ap (λ (k : ℕ). under (a .walk .key) k) (key ∙ ap (keyOf (a .scan) (a .plate .now)) (place .ensures)),
-      stand-spends (a .scan) (a .backwards) (a .plate .now) x (a .sight) (s .pre .0 .0) (s .pre .1 .1 .1 .0 .1) (s .pre .0 .2) (a .walk .key) (s .pre .0 .3) (a .path .now)
-          (a .walk .start) (a .walk .steps) (a .walk .gaps) (s .pre .1 .1 .0) (l .path) (l .stand) (l .n) (c .before .before .before .before .loop-test .taken) (l .inv .6),
-    )
+gaps-after-requires c κs = tt
 
 wanted-requires : tie.Need-wanted-requires Inv-loop μ-loop
 wanted-requires c κs = tt
