@@ -16,7 +16,7 @@ use Rattle.basics.proofs.Lists.{Passed, passed-none, passed-miss, passed-hit, p
 use Rattle.plate.specs.Opening.{levelAt}
 use Rattle.theory.specs.Modes.{Levels}
 use Rattle.theory.proofs.Opening.{levels-within}
-use Rattle.engine.proofs.FinishLaws.{read-level, level-small}
+use Rattle.plate.proofs.ReadLevels.{read-level, level-small}
 use Rattle.between.specs.Refusals.{isAbove, firstAbove}
 use Rattle.between.specs.Lengths.{ReadTo}
 

@@ -1,32 +1,21 @@
 -- The first and the last pass over the result. First every level is made the lowest; in the end the levels before x are finished, and the others are
--- still what was gathered. An element is read from its bits, so that its level is told by `read-level`.
+-- still what was gathered. An element is read from its bits (plate/proofs/ReadLevels.antt).
 use Prim.Native.Nat.{ℕ, _+_, _≤_, _<_, min}
 use mathlib.Core.Path.{_≡_, refl, sym, ap, subst, _∙_}
 use mathlib.Core.List.{List}
 use mathlib.Core.Logic.{⊎-elim}
 use native.Mathlib.Nat.{eq-or-lt-of-le}
 use native.Mathlib.Omega.{arith}
-use lib.ListN.{length, getD, set, List·getD-eq-default}
+use lib.ListN.{length, set, List·getD-eq-default}
 use lib.Seq.{getD-set-same, getD-set-other}
-use lib.IntN.{ℤ, pos}
+use lib.IntN.{ℤ}
 use lib.Signed.{mag}
-use mir.Syntax.{w16}
-use mir.Val.{toZ, ofZ}
-use mir.ValLaws.{toZ-ofZ}
 use Rattle.basics.proofs.Numbers.{le-or-lt}
-use Rattle.basics.proofs.Lists.{any-default}
 use Rattle.plate.specs.Levels.{lowest, key}
 use Rattle.plate.specs.Opening.{levelAt}
 use Rattle.frames.specs.Keys.{keyBy, levelBy}
 use Rattle.engine.specs.Finishing.{Finished}
 use Rattle.theory.specs.BestWalks.{keyAt}
-
--- an element, as the code reads it from its bits
-pub read-level : (f : List ℤ) (x : ℕ) → mag (getD f x (pos 0)) < 32768 → x < length f → toZ w16 (ofZ w16 (getD f x (pos 0))) ≡ levelAt f x
-read-level f x small h = toZ-ofZ w16 (getD f x (pos 0)) (record { sfits = small }) ∙ any-default f x (pos 0) lowest h
-
-pub level-small : (f : List ℤ) (x : ℕ) → mag (getD f x (pos 0)) < 32768 → x < length f → mag (levelAt f x) < 32768
-level-small f x small h = subst (λ (v : ℤ). mag v < 32768) (any-default f x (pos 0) lowest h) small
 
 key-set-same : (f : List ℤ) (x : ℕ) (v : ℤ) → x < length f → keyAt (set f x v) x ≡ key v
 key-set-same f x v h = ap key (getD-set-same f x v lowest h)

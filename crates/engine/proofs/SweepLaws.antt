@@ -1,7 +1,7 @@
 -- From the directions to the whole plate: what a direction adds, and what all of them do, or as many as it takes for every level to reach the pixel's
 -- own.
 use Prim.Native.Nat.{ℕ, suc, _+_, _-_, _*_, _/_, _%_, _^_, _≤_, _<_, max}
-use mathlib.Core.Path.{_≡_, refl, sym, ap, subst, _∙_}
+use mathlib.Core.Path.{_≡_, refl, sym, ap, _∙_}
 use mathlib.Core.Bool.{Bool, true, false, cond, true≢false}
 use mathlib.Core.List.{List, [], _∷_, _++_}
 use mathlib.Core.Logic.{inl, inr, ⊎-elim}
@@ -27,7 +27,7 @@ use Rattle.directions.specs.Gathering.{Raised, bestOf}
 use Rattle.directions.specs.Doors.{opens}
 use Rattle.directions.proofs.DoorLaws.{opens-if}
 use Rattle.engine.specs.Finishing.{Accepted, Complete, Gathered, bestIn, bestIfChosen, bestOfAll}
-use Rattle.theory.specs.BestWalks.{keyAt, best, gapEnd}
+use Rattle.theory.specs.BestWalks.{best, gapEnd}
 use Rattle.theory.specs.Walks.{around}
 use Rattle.engine.proofs.RaiseLaws.{raised-to-nothing, raised-twice, raised-by}
 
@@ -159,12 +159,6 @@ module _ (W H : ℕ) (s : Setting) (plate : List ℤ) where
         is = λ x h. omega (arith, r .inside x (omega arith) h, full .reached x (omega arith), before-grows index x l, all-is x);
         len = r .len;
       }
-
--- one pixel more has reached its own level
-pub reached-more : (mode : ℕ) (plate result : List ℤ) (x : ℕ) → ((y : ℕ) → y < x → keyBy mode (levelAt plate y) ≤ keyAt result y) →
-    keyBy mode (levelAt plate x) ≤ keyAt result x → (y : ℕ) → y < x + 1 → keyBy mode (levelAt plate y) ≤ keyAt result y
-reached-more mode plate result x so-far here y h =
-    ⊎-elim (λ e. let same : x ≡ y = omega arith in subst (λ (z : ℕ). keyBy mode (levelAt plate z) ≤ keyAt result z) same here) (λ l. so-far y l) (le-or-lt x y)
 
 -- ---- the bit of the direction, doubled from one to the next
 

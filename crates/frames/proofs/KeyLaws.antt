@@ -10,10 +10,9 @@ use lib.Signed.{mag}
 use borrow.Author.Tests.{eq-eqb, ne-eqb}
 use mir.Syntax.{w16}
 use mir.Val.{toZ, ofZ}
-use mir.Facts.{toZ-ofZ}
-use Rattle.basics.proofs.Lists.{any-default}
-use Rattle.plate.specs.Levels.{lowest, key, level, mirror}
+use Rattle.plate.specs.Levels.{key, level, mirror}
 use Rattle.plate.specs.Opening.{levelAt}
+use Rattle.plate.proofs.ReadLevels.{read-level}
 use Rattle.plate.proofs.Keys.{level-key, key-level, key-bound, mirror-level}
 use Rattle.frames.specs.Keys.{keyBy, levelBy}
 
@@ -56,4 +55,4 @@ pub level-read :
     n ≡ g (toZ w16 (ofZ w16 (getD xs i (pos 0)))) →
     n ≡ g (levelAt xs i)
 level-read g xs i n f h e =
-    e ∙ ap g (toZ-ofZ {w = w16} {z = getD xs i (pos 0)} (record { sfits = f }) ∙ any-default xs i (pos 0) lowest h)
+    e ∙ ap g (read-level xs i f h)

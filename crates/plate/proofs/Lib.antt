@@ -1,5 +1,6 @@
 pub mod StepTable
 pub mod Keys
+pub mod ReadLevels
 pub mod NumberedSteps
 pub mod Sizes
 pub mod Spans

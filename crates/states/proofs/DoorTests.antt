@@ -1,6 +1,6 @@
 -- The tests of specs/Doors.antt: asked one after the other, as the code asks them; what a call that passes them has, and that a call with all of it
 -- passes. Said of any numbers, so that no term is large.
-use Prim.Native.Nat.{ℕ, _+_, _-_, _*_, _≤_, _<_}
+use Prim.Native.Nat.{ℕ, _+_, _-_, _≤_, _<_}
 use mathlib.Core.Path.{_≡_, refl, sym, _∙_}
 use mathlib.Core.Bool.{Bool, true, false, _&&_, _||_}
 use mathlib.Core.Logic.{_⊎_, inl, inr}

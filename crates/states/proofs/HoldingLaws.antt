@@ -14,7 +14,7 @@ use Rattle.states.specs.Runs.{Between, Apart}
 use Rattle.plans.specs.Plans.{Sound, Readable, rowsIn, rowLo, rowHi, rowAt, rowSize, seenLo, seenHi, pitchOf, blockOf, halfOf, starts, startsAt}
 use Rattle.states.specs.Rows.{gate, inRow, RowHeld, TapsOf, layerAhead, blended}
 use Rattle.states.specs.States.{rowBefore, lastBefore, seen, ahead, Grown}
-use Rattle.states.specs.Holding.{Slotted, tapOf, LastFrom, LastHeld, Ready, LastRow, MadeRow}
+use Rattle.states.specs.Holding.{Slotted, tapOf, LastHeld, Ready, LastRow, MadeRow}
 use Rattle.plans.specs.declared.plan.Plan.{Plan}
 use Rattle.states.specs.declared.state.Slots.{Slots}
 use Rattle.theory.specs.BestWalks.{alone}

@@ -1,13 +1,13 @@
 -- Row m of several states. In a half the row of each state has that of the state before beside it, so a row that has been made is what the next state
 -- asks for; the rows of the number before lie in the other half, and the rows of the states before are further on, so both stay as they are.
 use Prim.Native.Nat.{ℕ, zero, suc, _+_, _-_, _*_, _≤_, _<_}
-use mathlib.Core.Path.{_≡_, refl, sym, ap, _∙_, subst}
+use mathlib.Core.Path.{_≡_, sym, ap, _∙_, subst}
 use mathlib.Core.Bool.{true}
 use mathlib.Core.Logic.{_⊎_, inl, inr, ⊎-elim}
 use mathlib.Core.List.{List}
 use native.Mathlib.Nat.{add-mul}
 use native.Mathlib.Omega.{arith}
-use lib.ListN.{length, getD}
+use lib.ListN.{getD}
 use Rattle.basics.proofs.Numbers.{le-or-lt, rows-fit}
 use Rattle.states.specs.Runs.{Apart}
 use Rattle.plans.specs.Plans.{Sound, rowsIn, seenHi, pitchOf, blockOf, halfOf, halfWith}

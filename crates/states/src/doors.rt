@@ -18,7 +18,7 @@ use crate::state::make_states;
 use plans::Plan;
 
 // Whether n numbers from `at` on lie within so many.
-fn lies_in(at: usize, n: usize, len: usize) -> bool
+pub fn lies_in(at: usize, n: usize, len: usize) -> bool
     ensures { λ r. ⌜ r ≡ leb (at + n) len ⌝ }
 {
     if n > len {

@@ -21,6 +21,7 @@ pub use doors::advance;
 pub use doors::advance_joined;
 pub use doors::can_hold;
 pub use doors::fill;
+pub use doors::lies_in;
 pub use runs::max2;
 pub use runs::min2;
 pub use state::Stretch;

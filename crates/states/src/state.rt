@@ -3,8 +3,8 @@
 // number (`now`), so that of all these states only the last is stored.
 ghost use mathlib.Core.Path.{_≡_};
 ghost use mathlib.Core.Logic.{_⊎_};
-ghost use Prim.Native.Nat.{ℕ, _+_, _-_, _*_, _≤_, _<_};
-ghost use lib.ListN.{length, getD};
+ghost use Prim.Native.Nat.{_+_, _-_, _*_, _≤_, _<_};
+ghost use lib.ListN.{length};
 ghost use Rattle.states.specs.Runs.{Apart};
 ghost use Rattle.plans.specs.Plans.{Sound, rowsIn, rowLo, rowHi, rowAt, stateSize, keysSize, blockOf, halfOf, halfWith, starts};
 ghost use Rattle.states.specs.States.{Advanced, Joined, furtherIn};

@@ -3,8 +3,8 @@
 // side; of this side each is made when it is wanted, and joined without being kept.
 ghost use mathlib.Core.Path.{_≡_};
 ghost use mathlib.Core.Bool.{true, false};
-ghost use Prim.Native.Nat.{ℕ, _+_, _-_, _*_, _≤_, _<_};
-ghost use lib.ListN.{length, getD};
+ghost use Prim.Native.Nat.{_+_, _-_, _*_, _≤_, _<_};
+ghost use lib.ListN.{length};
 ghost use Rattle.plans.specs.Plans.{stateSize, keysSize, halfOf};
 ghost use Rattle.plans.specs.Forms.{wellFormed};
 ghost use Rattle.sweeps.specs.Sweeps.{Opposite, Swept};

@@ -4,7 +4,6 @@
 ghost use mathlib.Core.Path.{_≡_};
 ghost use mathlib.Core.Bool.{true};
 ghost use Prim.Native.Nat.{_+_, _<_};
-ghost use lib.Dec.{leb};
 ghost use lib.ListN.{length};
 ghost use Rattle.basics.specs.Cases.{either};
 ghost use Rattle.plans.specs.Plans.{rowsIn};
@@ -21,16 +20,7 @@ use crate::notes;
 use crate::stand::Stand;
 use crate::step;
 use plans::Plan;
-
-// Whether n numbers from `at` on lie within so many.
-fn lies_in(at: usize, n: usize, len: usize) -> bool
-    ensures { λ r. ⌜ r ≡ leb (at + n) len ⌝ }
-{
-    if n > len {
-        return false;
-    }
-    at <= len - n
-}
+use states::lies_in;
 
 // Whether the plan can be followed and a state of it stands at `base`, behind the keys.
 fn can_read(plan: Plan, base: usize, work: usize) -> bool

@@ -9,7 +9,8 @@ use mir.Syntax.{w16}
 use mir.Val.{toZ, ofZ}
 use mir.ValLaws.{toZ-ofZ}
 use Rattle.plate.specs.Opening.{levelAt}
-use Rattle.engine.proofs.FinishLaws.{read-level, level-small, FinishedTo, finished-none, finished-more, finished-all}
+use Rattle.plate.proofs.ReadLevels.{read-level, level-small}
+use Rattle.engine.proofs.FinishLaws.{FinishedTo, finished-none, finished-more, finished-all}
 use Rattle.engine.proofs.finish.finish.Statement.{statement}
 use Rattle.engine.proofs.finish.finish.Tie as tie
 

@@ -5,12 +5,12 @@ use mathlib.Core.Path.{sym}
 use native.Mathlib.Omega.{arith}
 use borrow.Author.Needs.{needs}
 use lib.ListN.{length}
+use Rattle.basics.proofs.Numbers.{below-more}
 use Rattle.plate.specs.Levels.{key}
 use Rattle.plate.specs.Opening.{levelAt}
 use Rattle.frames.specs.Keys.{keyBy}
 use Rattle.theory.specs.BestWalks.{keyAt}
 use Rattle.frames.proofs.KeyLaws.{level-read}
-use Rattle.engine.proofs.SweepLaws.{reached-more}
 use Rattle.engine.proofs.sweep.is_complete.Statement.{statement}
 use Rattle.engine.proofs.sweep.is_complete.Tie as tie
 
@@ -56,7 +56,7 @@ loop-again c =
     let l = c .before .before .before .before .before .before .loop in
     let best = level-read key (a .result .now) (l .x) (c .before .before .before .key-of .result) (c .before .before .before .before .key-of-arg .given) (omega arith) (c .before .before .before .key-of .ensures) in
     let own = level-read (keyBy (a .mode)) (a .plate .now) (l .x) (c .before .key-by .result) (c .before .before .key-by-arg .given) (omega arith) (c .before .key-by .ensures) in
-    (omega arith, reached-more (a .mode) (a .plate .now) (a .result .now) (l .x) (l .inv .1) (omega (arith, best, own, c .if1 .left)))
+    (omega arith, below-more (λ (y : ℕ). keyBy (a .mode) (levelAt (a .plate .now) y) ≤ keyAt (a .result .now) y) (l .x) (omega (arith, best, own, c .if1 .left)) (l .inv .1))
 
 returns-2 : tie.Need-returns-2 Inv-loop μ-loop
 returns-2 c = λ e. record { reached = λ x h. c .before .loop .inv .1 x (omega arith) }

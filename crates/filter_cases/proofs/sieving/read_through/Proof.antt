@@ -6,7 +6,7 @@ use lib.Signed.{mag}
 use Rattle.basics.proofs.Numbers.{below-more}
 use Rattle.plate.specs.Opening.{levelAt}
 use Rattle.theory.proofs.Opening.{levels-within}
-use Rattle.engine.proofs.FinishLaws.{level-small}
+use Rattle.plate.proofs.ReadLevels.{level-small}
 use Rattle.filter_cases.proofs.sieving.read_through.Statement.{statement}
 use Rattle.filter_cases.proofs.sieving.read_through.Tie as tie
 

@@ -6,7 +6,7 @@ use mathlib.Core.List.{List}
 use native.Mathlib.Omega.{arith}
 use lib.ListN.{length}
 use Rattle.plans.specs.Plans.{rowsIn, blockOf, halfOf}
-use Rattle.states.specs.Holding.{Halves, Slotted}
+use Rattle.states.specs.Holding.{Slotted}
 use Rattle.states.specs.States.{furtherIn}
 use Rattle.states.specs.declared.state.Slots.{Slots}
 use Rattle.states.proofs.SizeLaws.{block-small, half-room, row-earlier}

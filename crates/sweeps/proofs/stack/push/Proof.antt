@@ -1,7 +1,6 @@
 -- `push` meets its contract: the states from the last mark on are made, the last of them in the next place of the stack.
 use Prim.Native.Nat.{suc, _≤_}
 use native.Mathlib.Omega.{arith}
-use borrow.Author.Needs.{needs}
 use lib.ListN.{length, length-set}
 use Rattle.plans.specs.Plans.{stateSize}
 use Rattle.plans.proofs.FormLaws.{well-formed-sound}
