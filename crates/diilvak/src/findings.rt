@@ -9,11 +9,11 @@ ghost use Rattle.book.specs.Refusals.{entered, withdrawVerdict, handedBack};
 ghost use Rattle.entering.specs.Refusals.{keyOf, enterTraceVerdict};
 ghost use Rattle.plate.specs.Telling.{numberOf, lentAfter, valueAfter};
 ghost use Rattle.diilvak.specs.Numbers.{settingOf, shownAfter};
+use crate::taking::setting_of;
 use crate::telling::tell_trace;
 use book::Book;
 use book::Kept;
 use entering::Pixel;
-use plate::Setting;
 
 // A book in which nothing stands.
 #[no_mangle]
@@ -54,13 +54,7 @@ pub extern "C" fn diilvak_enter_trace(
     ensures { λ r. ⌜ shownAfter (enterTraceVerdict width height (settingOf length gaps directions mode ends) (now (plate .entry)) pixel book (size (now (path .entry))) (size (now (work .entry)))) (Shows (settingOf length gaps directions mode ends) width height (now (plate .entry)) (pixel .place)) (now (direction .entry)) (now (direction .exit)) (now (path .entry)) (now (path .exit)) (now (work .entry)) (now (work .exit)) ⌝ }
     ensures { λ r. ⌜ r .book ≡ lentAfter (enterTraceVerdict width height (settingOf length gaps directions mode ends) (now (plate .entry)) pixel book (size (now (path .entry))) (size (now (work .entry)))) (entered book (keyOf (settingOf length gaps directions mode ends) pixel) (now (level .exit)) (now (direction .exit))) book ⌝ }
 {
-    let setting = Setting {
-        length: length,
-        gaps: gaps,
-        directions: directions,
-        mode: mode,
-        ends: ends,
-    };
+    let setting = setting_of(length, gaps, directions, mode, ends);
     let done = entering::enter_trace(width, height, plate, setting, pixel, book, path, work);
     let after = done.book;
     let traced = done.traced;

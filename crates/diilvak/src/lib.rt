@@ -17,8 +17,10 @@ ghost use Rattle.diilvak.specs.Numbers.{settingOf, freeAfter, shownAfter
 ghost use Rattle.diilvak.specs.Version.{version};
 
 mod findings;
+mod taking;
 mod telling;
 
+use crate::taking::setting_of;
 use crate::telling::tell;
 use crate::telling::tell_trace;
 use plate::Answer;
@@ -136,13 +138,7 @@ pub extern "C" fn diilvak_filter(
     ensures { λ r. ⌜ now (result .exit) ≡ lentAfter (filterVerdict width height (settingOf length gaps directions mode ends) (size (now (plate .entry))) (size (now (result .entry))) (size (now (work .entry)))) (filtered (settingOf length gaps directions mode ends) width height (now (plate .entry))) (now (result .entry)) ⌝ }
     ensures { λ r. ⌜ freeAfter (filterVerdict width height (settingOf length gaps directions mode ends) (size (now (plate .entry))) (size (now (result .entry))) (size (now (work .entry)))) (now (work .entry)) (now (work .exit)) ⌝ }
 {
-    let setting = Setting {
-        length: length,
-        gaps: gaps,
-        directions: directions,
-        mode: mode,
-        ends: ends,
-    };
+    let setting = setting_of(length, gaps, directions, mode, ends);
     let answer = engine::filter(width, height, plate, setting, result, work);
     match answer {
         Answer::Done => 0,
@@ -175,13 +171,7 @@ pub extern "C" fn diilvak_filter_between(
     ensures { λ r. ⌜ now (place .exit) ≡ placeOf (betweenVerdict width height (settingOf length gaps directions mode ends) (now (lowest .entry)) (now (highest .entry)) (size (now (low .entry))) (size (now (high .entry))) (size (now (work .entry)))) ⌝ }
     ensures { λ r. ⌜ ifAccepted (betweenVerdict width height (settingOf length gaps directions mode ends) (now (lowest .entry)) (now (highest .entry)) (size (now (low .entry))) (size (now (high .entry))) (size (now (work .entry)))) (Bounds (settingOf length gaps directions mode ends) width height (now (lowest .entry)) (now (highest .entry)) (now (low .exit)) (now (high .exit))) ⌝ }
 {
-    let setting = Setting {
-        length: length,
-        gaps: gaps,
-        directions: directions,
-        mode: mode,
-        ends: ends,
-    };
+    let setting = setting_of(length, gaps, directions, mode, ends);
     let answer = between::filter_between(width, height, lowest, highest, setting, low, high, work);
     tell(answer, place)
 }
@@ -208,13 +198,7 @@ pub extern "C" fn diilvak_trace(
     ensures { λ r. ⌜ now (level .exit) ≡ valueAfter (traceVerdict width height (settingOf length gaps directions mode ends) (now (plate .entry)) at (size (now (path .entry))) (size (now (work .entry)))) (now (level .entry)) ⌝ }
     ensures { λ r. ⌜ shownAfter (traceVerdict width height (settingOf length gaps directions mode ends) (now (plate .entry)) at (size (now (path .entry))) (size (now (work .entry)))) (Shows (settingOf length gaps directions mode ends) width height (now (plate .entry)) at) (now (direction .entry)) (now (direction .exit)) (now (path .entry)) (now (path .exit)) (now (work .entry)) (now (work .exit)) ⌝ }
 {
-    let setting = Setting {
-        length: length,
-        gaps: gaps,
-        directions: directions,
-        mode: mode,
-        ends: ends,
-    };
+    let setting = setting_of(length, gaps, directions, mode, ends);
     let traced = tracing::trace(width, height, plate, setting, at, path, work);
     tell_trace(traced, direction, level)
 }

@@ -5,6 +5,9 @@ use borrow.Author.Needs.{needs}
 use Rattle.diilvak.proofs.diilvak_filter.Statement.{statement}
 use Rattle.diilvak.proofs.diilvak_filter.Tie as tie
 
+setting-of-requires : tie.Need-setting-of-requires
+setting-of-requires c κs = search needs
+
 filter-requires : tie.Need-filter-requires
 filter-requires c κs = search needs
 
@@ -24,8 +27,9 @@ returns : tie.Need-returns
 returns c =
     let d = c .before .before .before .before .before in
     let told = c .enum-told .given .1 in
-    let v = sym (d .filter .ensures .0) ∙ ap answered told in
-    (rw v, (rw v (rw told at (d .filter .ensures .1 .0)), rw v tt))
+    let e = rw (d .before .before .before .setting-of .ensures) at (d .filter .ensures) in
+    let v = sym (e .0) ∙ ap answered told in
+    (rw v, (rw v (rw told at (e .1 .0)), rw v tt))
 
 same-length-3 : tie.Need-same-length-3
 same-length-3 c = search needs
@@ -37,13 +41,15 @@ returns-2 : tie.Need-returns-2
 returns-2 c =
     let d = c .before .before .before .before .before .before in
     let told = c .before .answer .given .1 in
-    let v = sym (d .filter .ensures .0) ∙ ap answered told in
-    (rw v, (rw v (rw told at (d .filter .ensures .1 .0)), rw v (rw told at (d .filter .ensures .1 .1))))
+    let e = rw (d .before .before .before .setting-of .ensures) at (d .filter .ensures) in
+    let v = sym (e .0) ∙ ap answered told in
+    (rw v, (rw v (rw told at (e .1 .0)), rw v (rw told at (e .1 .1))))
 
 pub diilvak-filter-spec : {M : Type 1} → statement M
 diilvak-filter-spec =
     tie.close
     (tie.spec
+    setting-of-requires
     filter-requires
     enum-told
     enum-known-answer

@@ -7,6 +7,9 @@ use Rattle.diilvak.proofs.Told.{result-lent, work-free}
 use Rattle.diilvak.proofs.diilvak_filter_between.Statement.{statement}
 use Rattle.diilvak.proofs.diilvak_filter_between.Tie as tie
 
+setting-of-requires : tie.Need-setting-of-requires
+setting-of-requires c κs = search needs
+
 filter-between-requires : tie.Need-filter-between-requires
 filter-between-requires c κs = search needs
 
@@ -25,7 +28,7 @@ same-length-3 c = search needs
 returns : tie.Need-returns
 returns c =
     let d = c .before .before .before .before .before .before in
-    let e = d .filter-between .ensures in
+    let e = rw (d .before .before .before .before .setting-of .ensures) at (d .filter-between .ensures) in
     let answer = d .filter-between .result in (
       c .tell .ensures .0 ∙ ap numberOf (e .0),
       (
@@ -36,4 +39,4 @@ returns c =
 
 pub diilvak-filter-between-spec : {M : Type 1} → statement M
 diilvak-filter-between-spec =
-    tie.close (tie.spec filter-between-requires tell-requires same-length same-length-2 same-length-3 returns)
+    tie.close (tie.spec setting-of-requires filter-between-requires tell-requires same-length same-length-2 same-length-3 returns)

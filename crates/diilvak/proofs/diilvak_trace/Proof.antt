@@ -4,6 +4,9 @@ use Rattle.diilvak.proofs.Told.{trace-lent}
 use Rattle.diilvak.proofs.diilvak_trace.Statement.{statement}
 use Rattle.diilvak.proofs.diilvak_trace.Tie as tie
 
+setting-of-requires : tie.Need-setting-of-requires
+setting-of-requires c κs = search needs
+
 trace-requires : tie.Need-trace-requires
 trace-requires c κs = search needs
 
@@ -19,10 +22,10 @@ same-length-2 c = search needs
 returns : tie.Need-returns
 returns c =
     let d = c .before .before .before .before .before .before .before in
-    let e = d .trace .ensures in
+    let e = rw (d .before .before .before .setting-of .ensures) at (d .trace .ensures) in
     let told = c .tell-trace .ensures in
     rw (← e .0) (told .0, (told .1 .1, rw (told .1 .0) (trace-lent (d .trace .result) _ _ _ _ _ _ (e .1))))
 
 pub diilvak-trace-spec : {M : Type 1} → statement M
 diilvak-trace-spec =
-    tie.close (tie.spec trace-requires tell-trace-requires same-length same-length-2 returns)
+    tie.close (tie.spec setting-of-requires trace-requires tell-trace-requires same-length same-length-2 returns)
