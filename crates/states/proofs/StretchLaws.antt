@@ -2,7 +2,7 @@
 -- asks for; the rows of the number before lie in the other half, and the rows of the states before are further on, so both stay as they are.
 use Prim.Native.Nat.{ℕ, zero, suc, _+_, _-_, _*_, _≤_, _<_}
 use mathlib.Core.Path.{_≡_, sym, ap, _∙_, subst}
-use mathlib.Core.Bool.{true}
+use mathlib.Core.Bool.{true, false}
 use mathlib.Core.Logic.{_⊎_, inl, inr, ⊎-elim}
 use mathlib.Core.List.{List}
 use native.Mathlib.Nat.{add-mul}
@@ -157,3 +157,27 @@ module _ (p : Plan) (first past m : ℕ) (work : List ℕ) (from : ℕ) (s : Slo
         is = λ f stands chain ready. record { is = λ c a b. to .is f stands chain ready .0 c a (omega arith) };
         len = to .apart .len;
       }
+
+  -- a state by itself, where states are not linked
+  pub rows-one : (new now : List ℕ) → p .linked ≡ false → past ≡ first + 1 → MadeRow p (past - 1) m work s old new → now ≡ new →
+      NextRows p first past m work from s old now
+  rows-one new now alone one made same =
+      subst (λ (l : List ℕ). NextRows p first past m work from s old l) (sym same)
+      record {
+        is = λ f stands chain ready.
+            record {
+              is = λ d lo hi.
+                  let this : past - 1 ≡ d = omega arith in
+                  let here : (h : ℕ) → h ≡ h + (past - 1 - (past - 1)) * blockOf p =
+                  λ h. omega arith ∙ ap (λ (q : ℕ). h + q * blockOf p) (let w : 0 ≡ past - 1 - (past - 1) = omega arith in w) in
+                  subst (λ (e : ℕ). Ready p e (suc m) new (s .now + (past - 1 - e) * blockOf p) (f (e - 1)) (f e)) this
+                  (subst (λ (q : ℕ). Ready p (past - 1) (suc m) new q (f (past - 1 - 1)) (f (past - 1))) (here (s .now))
+                  (made .is (f (past - 1 - 1)) (f (past - 1)) (λ linked. absurd (let z : _≡_ {A = ℕ} 0 1 = cc in omega arith)) (chain .grown (past - 1) (omega arith) (omega arith))
+                  (subst (λ (q : ℕ). Ready p (past - 1) m old q (f (past - 1 - 1)) (f (past - 1))) (sym (here (s .was)))
+                  (ready .is (past - 1) (omega arith) (omega arith)))));
+            };
+        len = made .apart .len;
+      }
+
+  pub rows-same : (new now : List ℕ) → NextRows p first past m work from s old new → now ≡ new → NextRows p first past m work from s old now
+  rows-same new now next same = subst (λ (l : List ℕ). NextRows p first past m work from s old l) (sym same) next

@@ -2,6 +2,7 @@
 // and so on. Two rows of each state are held at a time, that of the number before (`was`) and that of this
 // number (`now`), so that of all these states only the last is stored.
 ghost use mathlib.Core.Path.{_≡_};
+ghost use mathlib.Core.Bool.{false};
 ghost use mathlib.Core.Logic.{_⊎_};
 ghost use Prim.Native.Nat.{_+_, _-_, _*_, _≤_, _<_};
 ghost use lib.ListN.{length};
@@ -189,6 +190,18 @@ fn next_rows(
     }
 }
 
+// Whether the last of the states is made of others. Where it is not, its rows are made straight away: a call
+// less for each of them.
+fn has_others(plan: Plan, states: Stretch) -> bool
+    requires { ⌜ states .first < states .past ⌝ }
+    ensures { λ r. ⌜ (r ≡ false → (plan .linked ≡ false) × (states .past ≡ states .first + 1)) ⌝ }
+{
+    if plan.linked {
+        return true;
+    }
+    states.past - states.first > 1
+}
+
 // States from the one before at `from`, the last of them at `to`, which may be the same place: a row is
 // read before its place is written. The keys stand at the beginning of the work buffer; what `held` and
 // `below` hold is free.
@@ -208,6 +221,7 @@ pub(crate) fn make_states(
     ensures { λ _. ⌜ Advanced plan (states .first) (states .past) (now (work .entry)) (now (work .exit)) from to ⌝ }
     ensures { λ _. ⌜ (length (now (held .exit)) ≡ length (now (held .entry))) × (length (now (below .exit)) ≡ length (now (below .entry))) ⌝ }
 {
+    let many = has_others(plan, states);
     let e = states.past - 1;
     let half = half_with(plan, e - states.first);
     fill_run(held, 0, half, 0);
@@ -216,7 +230,11 @@ pub(crate) fn make_states(
     let mut at = to;
     let mut m = 0;
     while m < rows {
-        next_rows(held, below, work, plan, states, m, from, slots);
+        if many {
+            next_rows(held, below, work, plan, states, m, from, slots);
+        } else {
+            make_row(held, below, work, plan, e, m, slots);
+        }
         let row = row_in(plan, e, m);
         store_row(work, at, held, slots.now, plan, row);
         slots = swapped(slots);
@@ -246,6 +264,7 @@ pub(crate) fn make_joined(
     ensures { λ _. ⌜ (length (now (held .exit)) ≡ length (now (held .entry))) × (length (now (below .exit)) ≡ length (now (below .entry))) ⌝ }
     ensures { λ _. ⌜ length (now (best .exit)) ≡ length (now (best .entry)) ⌝ }
 {
+    let many = has_others(plan, states);
     let e = states.past - 1;
     let half = half_with(plan, e - states.first);
     fill_run(held, 0, half, 0);
@@ -254,7 +273,11 @@ pub(crate) fn make_joined(
     let mut at = ends + plan.rows * size;
     let mut m = 0;
     while m < plan.rows {
-        next_rows(held, below, work, plan, states, m, from, slots);
+        if many {
+            next_rows(held, below, work, plan, states, m, from, slots);
+        } else {
+            make_row(held, below, work, plan, e, m, slots);
+        }
         at -= size;
         let row = row_in(plan, e, m);
         join_row(best, held, slots.now, work, at, plan, row);
