@@ -44,6 +44,12 @@ half-room p = go (p .linked) refl where
   go true e = omega (arith, half-linked p e)
   go false e = omega (arith, half-alone p e)
 
+pub half-most : (p : Plan) → halfOf p ≤ blockOf p + blockOf p
+half-most p = go (p .linked) refl where
+  go : (b : Bool) → p .linked ≡ b → halfOf p ≤ blockOf p + blockOf p
+  go true e = omega (arith, half-linked p e)
+  go false e = omega (arith, half-alone p e)
+
 -- the rows of b further states come before those of the first and of the last one
 pub half-further : (p : Plan) (b more : ℕ) → b ≤ more → b * blockOf p + halfOf p ≤ halfWith p more
 half-further p b more h = omega (arith, rows-fit b 0 more (blockOf p) (omega arith))

@@ -14,13 +14,14 @@ use Rattle.plans.specs.Plans.{Sound, rowsIn, rowLo, rowHi, rowAt, startsAt, see
 use Rattle.plans.specs.Plans.{rowSize, stateSize, keysSize, pitchOf, blockOf, halfOf, halfWith}
 use Rattle.states.specs.Rows.{gate, RowHeld, RowStored, RowJoined}
 use Rattle.states.specs.States.{rowBefore, ahead, Grown, Chain, LastHolds, Advanced, StateJoined, OtherHolds, Joined}
-use Rattle.states.specs.Holding.{Halves, LastFrom, AllReady, NextRows}
+use Rattle.states.specs.Holding.{Halves, LastFrom, AllReady}
 use Rattle.plans.specs.declared.plan.Plan.{Plan}
 use Rattle.states.specs.declared.state.Slots.{Slots}
 use Rattle.theory.specs.BestWalks.{alone}
 use Rattle.plans.proofs.PlanSizes.{rows-few}
 use Rattle.states.proofs.SizeLaws.{in-block, half-linked, half-room, half-further, row-within}
 use Rattle.states.proofs.HoldingLaws.{held-by}
+use Rattle.states.proofs.StretchLaws.{Turn}
 
 -- ---- what is read of the work buffer
 
@@ -116,7 +117,7 @@ making-none p first past work from old held half b eh =
 
 -- one row more
 pub making-more : (p : Plan) (first past m : ℕ) (old work : List ℕ) (from : ℕ) (s : Slots) (held new : List ℕ) → Sound p → first < past → past ≤ 65536 →
-    Kept p m old work from → Making p first past m old from held (s .was) → NextRows p first past m work from s held new →
+    Kept p m old work from → Making p first past m old from held (s .was) → Turn p first past m work from s held new →
     Making p first past (suc m) old from new (s .now)
 making-more p first past m old work from s held new sound l few kept making next =
     record {
@@ -143,6 +144,9 @@ made-row p first past m work from held half lo hi f l making el eh g =
 pub halves-first : (p : Plan) (more : ℕ) (s : Slots) (size size₁ : ℕ) → s .was ≡ 0 → s .now ≡ halfWith p more → halfWith p more + halfWith p more ≤ size →
     size ≤ 40000 → size₁ ≡ size → Halves p more s size₁
 halves-first p more s size size₁ ew en fits small es = record { either = inl (ew, en); fits = omega arith; small = omega arith }
+
+pub halves-same : (p : Plan) (more : ℕ) (s : Slots) (size size₁ : ℕ) → Halves p more s size → size₁ ≡ size → Halves p more s size₁
+halves-same p more s size size₁ h es = subst (λ (n : ℕ). Halves p more s n) (sym es) h
 
 -- they change their parts
 pub halves-swapped : (p : Plan) (more : ℕ) (s t : Slots) (size size₁ : ℕ) → Halves p more s size → t .was ≡ s .now → t .now ≡ s .was → size₁ ≡ size →

@@ -1,13 +1,13 @@
 -- Row m of several states. In a half the row of each state has that of the state before beside it, so a row that has been made is what the next state
 -- asks for; the rows of the number before lie in the other half, and the rows of the states before are further on, so both stay as they are.
 use Prim.Native.Nat.{ℕ, zero, suc, _+_, _-_, _*_, _≤_, _<_}
-use mathlib.Core.Path.{_≡_, sym, ap, _∙_, subst}
-use mathlib.Core.Bool.{true, false}
+use mathlib.Core.Path.{_≡_, refl, sym, ap, _∙_, subst}
+use mathlib.Core.Bool.{true}
 use mathlib.Core.Logic.{_⊎_, inl, inr, ⊎-elim}
 use mathlib.Core.List.{List}
 use native.Mathlib.Nat.{add-mul}
 use native.Mathlib.Omega.{arith}
-use lib.ListN.{getD}
+use lib.ListN.{length, getD}
 use Rattle.basics.proofs.Numbers.{le-or-lt, rows-fit}
 use Rattle.states.specs.Runs.{Apart}
 use Rattle.plans.specs.Plans.{Sound, rowsIn, seenHi, pitchOf, blockOf, halfOf, halfWith}
@@ -15,7 +15,7 @@ use Rattle.states.specs.States.{rowBefore, Chain}
 use Rattle.states.specs.Holding.{Slotted, Halves, LastFrom, LastHeld, LastRow, Ready, AllReady, MadeRow, NextRows}
 use Rattle.plans.specs.declared.plan.Plan.{Plan}
 use Rattle.states.specs.declared.state.Slots.{Slots}
-use Rattle.states.proofs.SizeLaws.{in-block, half-linked, half-room, half-further, row-earlier}
+use Rattle.states.proofs.SizeLaws.{in-block, half-linked, half-room, half-most, half-further, row-earlier}
 
 -- ---- the slots of one state
 
@@ -35,6 +35,13 @@ slotted-at p b more s t size h l ew en =
       now-fits = omega arith;
       small = h .small;
     }
+
+-- and so has the row of the state before the first
+pub last-room : (p : Plan) (more : ℕ) (s : Slots) (size half : ℕ) → Halves p more s size → half ≡ halfWith p more →
+    (s .now + (half - blockOf p) + (halfOf p - blockOf p) ≤ size) × (size ≤ 40000)
+last-room p more s size half h eh =
+    let room = half-further p 0 more (omega arith) in
+    ⊎-elim (λ w. omega (arith, h .fits, h .small, half-room p, half-most p)) (λ w. omega (arith, h .fits, h .small, half-room p, half-most p)) (h .either)
 
 -- the next state's are one row nearer
 pub one-nearer : (past d w : ℕ) → d < past → (past - d) * w ≡ (past - 1 - d) * w + w
@@ -87,40 +94,33 @@ last-of p d n m held slot slot₁ f en es ready =
 -- ---- state after state
 
 -- row m of the states below d has been made, and that of the state before d is held beside the place of its row
-pub record RowsTo (p : Plan) (first past m d : ℕ) (work : List ℕ) (from : ℕ) (s : Slots) (old new : List ℕ) : Type 0 where
-  pub is : (f : ℕ → ℕ → ℕ → ℕ → ℕ) → LastFrom p first m work from (f (first - 1)) → Chain p first past (λ q. getD work q 0) f →
-      AllReady p first past m old (s .was) f →
+pub record RowsTo (p : Plan) (first past m d : ℕ) (work : List ℕ) (s : Slots) (old new : List ℕ) : Type 0 where
+  pub is : (f : ℕ → ℕ → ℕ → ℕ → ℕ) → (p .linked ≡ true → LastHeld p first (suc m) old (s .now + (past - first) * blockOf p) (f (first - 1))) →
+      Chain p first past (λ q. getD work q 0) f → AllReady p first past m old (s .was) f →
       ((c : ℕ) → first ≤ c → c < d → Ready p c (suc m) new (s .now + (past - 1 - c) * blockOf p) (f (c - 1)) (f c))
       × (p .linked ≡ true → LastHeld p d (suc m) new (s .now + (past - d) * blockOf p) (f (d - 1)))
   pub apart : Apart old new (s .now) (s .now + halfWith p (past - 1 - first))
 
-module _ (p : Plan) (first past m : ℕ) (work : List ℕ) (from : ℕ) (s : Slots) (old : List ℕ) where
-  -- the row of the state before the first is held
-  pub rows-none : (new : List ℕ) (slot : ℕ) → first < past → slot ≡ s .now + (past - 1 - first) * blockOf p + blockOf p →
-      LastRow p first m work from new slot → Apart old new slot (slot + (halfOf p - blockOf p)) → RowsTo p first past m first work from s old new
-  rows-none new slot l es row a =
+module _ (p : Plan) (first past m : ℕ) (work : List ℕ) (s : Slots) (old : List ℕ) where
+  pub rows-none : RowsTo p first past m first work s old old
+  rows-none =
       record {
-        is = λ f stands chain ready. (
-          λ c a b. absurd (omega arith),
-          λ linked.
-              subst (λ (q : ℕ). LastHeld p first (suc m) new q (f (first - 1))) (es ∙ omega (arith, one-nearer past first (blockOf p) l))
-              (row .is (f (first - 1)) linked stands),
-        );
-        apart = record { under = λ k h. a .under k (omega arith); over = λ k h. a .over k (omega (arith, half-room p)); len = a .len };
+        is = λ f last chain ready. (λ c a b. absurd (omega arith), last);
+        apart = record { under = λ k h. refl; over = λ k h. refl; len = refl };
       }
 
   -- one state more
   pub rows-more : (d n : ℕ) (mid new : List ℕ) (t : Slots) (size : ℕ) → Sound p → first ≤ d → d < past → past ≤ 65536 → m < rowsIn p (past - 1) → n ≡ d + 1 →
       Halves p (past - 1 - first) s size → t .was ≡ s .was + (past - 1 - d) * blockOf p → t .now ≡ s .now + (past - 1 - d) * blockOf p →
-      RowsTo p first past m d work from s old mid → MadeRow p d m work t mid new → RowsTo p first past m n work from s old new
+      RowsTo p first past m d work s old mid → MadeRow p d m work t mid new → RowsTo p first past m n work s old new
   rows-more d n mid new t size sound lo hi few hm en halves ew et to made =
       let near = one-nearer past d (blockOf p) hi in
       let room = half-further p (past - 1 - d) (past - 1 - first) (omega arith) in
       let apart-was : (t .was + halfOf p ≤ s .now) ⊎ (s .now + halfWith p (past - 1 - first) ≤ t .was) =
       ⊎-elim (λ w. inl (omega arith)) (λ w. inr (omega arith)) (halves .either) in
       record {
-        is = λ f stands chain ready.
-            let before = to .is f stands chain ready in
+        is = λ f last chain ready.
+            let before = to .is f last chain ready in
             let was : Ready p d m mid (t .was) (f (d - 1)) (f d) =
             ready-apart p d m old mid (t .was) (s .now) (s .now + halfWith p (past - 1 - first)) (f (d - 1)) (f d) sound (omega arith)
             (omega (arith, row-earlier p (past - 1) d m sound (omega arith) hm)) (to .apart) apart-was
@@ -151,33 +151,54 @@ module _ (p : Plan) (first past m : ℕ) (work : List ℕ) (from : ℕ) (s : Slo
             };
       }
 
-  pub rows-all : (d : ℕ) (new : List ℕ) → past ≤ d → RowsTo p first past m d work from s old new → NextRows p first past m work from s old new
+  pub rows-all : (d : ℕ) (new : List ℕ) → past ≤ d → RowsTo p first past m d work s old new → NextRows p first past m work s old new
   rows-all d new l to =
       record {
-        is = λ f stands chain ready. record { is = λ c a b. to .is f stands chain ready .0 c a (omega arith) };
+        is = λ f last chain ready. record { is = λ c a b. to .is f last chain ready .0 c a (omega arith) };
         len = to .apart .len;
       }
 
-  -- a state by itself, where states are not linked
-  pub rows-one : (new now : List ℕ) → p .linked ≡ false → past ≡ first + 1 → MadeRow p (past - 1) m work s old new → now ≡ new →
-      NextRows p first past m work from s old now
-  rows-one new now alone one made same =
-      subst (λ (l : List ℕ). NextRows p first past m work from s old l) (sym same)
-      record {
-        is = λ f stands chain ready.
-            record {
-              is = λ d lo hi.
-                  let this : past - 1 ≡ d = omega arith in
-                  let here : (h : ℕ) → h ≡ h + (past - 1 - (past - 1)) * blockOf p =
-                  λ h. omega arith ∙ ap (λ (q : ℕ). h + q * blockOf p) (let w : 0 ≡ past - 1 - (past - 1) = omega arith in w) in
-                  subst (λ (e : ℕ). Ready p e (suc m) new (s .now + (past - 1 - e) * blockOf p) (f (e - 1)) (f e)) this
-                  (subst (λ (q : ℕ). Ready p (past - 1) (suc m) new q (f (past - 1 - 1)) (f (past - 1))) (here (s .now))
-                  (made .is (f (past - 1 - 1)) (f (past - 1)) (λ linked. absurd (let z : _≡_ {A = ℕ} 0 1 = cc in omega arith)) (chain .grown (past - 1) (omega arith) (omega arith))
-                  (subst (λ (q : ℕ). Ready p (past - 1) m old q (f (past - 1 - 1)) (f (past - 1))) (sym (here (s .was)))
-                  (ready .is (past - 1) (omega arith) (omega arith)))));
-            };
-        len = made .apart .len;
-      }
+  -- a state by itself
+  pub rows-one : (new : List ℕ) (size : ℕ) → Sound p → past ≡ first + 1 → past ≤ 65536 → m < rowsIn p (past - 1) → Halves p (past - 1 - first) s size →
+      MadeRow p (past - 1) m work s old new → NextRows p first past m work s old new
+  rows-one new size sound one few hm halves made =
+      let none : (h : ℕ) → h ≡ h + (past - 1 - (past - 1)) * blockOf p =
+      λ h. omega arith ∙ ap (λ (q : ℕ). h + q * blockOf p) (let w : 0 ≡ past - 1 - (past - 1) = omega arith in w) in
+      rows-all past new (omega arith)
+      (rows-more (past - 1) past old new s size sound (omega arith) (omega arith) few hm (omega arith) halves (none (s .was)) (none (s .now))
+      (subst (λ (d : ℕ). RowsTo p first past m d work s old old) (let w : first ≡ past - 1 = omega arith in w) rows-none) made)
 
-  pub rows-same : (new now : List ℕ) → NextRows p first past m work from s old new → now ≡ new → NextRows p first past m work from s old now
-  rows-same new now next same = subst (λ (l : List ℕ). NextRows p first past m work from s old l) (sym same) next
+  pub rows-same : (new now : List ℕ) → NextRows p first past m work s old new → now ≡ new → NextRows p first past m work s old now
+  rows-same new now next same = subst (λ (l : List ℕ). NextRows p first past m work s old l) (sym same) next
+
+-- ---- a turn
+
+-- row m of all states has been made, that of the state before them being read from the work buffer
+pub record Turn (p : Plan) (first past m : ℕ) (work : List ℕ) (from : ℕ) (s : Slots) (old new : List ℕ) : Type 0 where
+  pub is : (f : ℕ → ℕ → ℕ → ℕ → ℕ) → LastFrom p first m work from (f (first - 1)) → Chain p first past (λ q. getD work q 0) f →
+      AllReady p first past m old (s .was) f → AllReady p first past (suc m) new (s .now) f
+  pub len : length new ≡ length old
+
+-- it comes beside the place of the first one's row, and the rows of the number before stay
+pub turn : (p : Plan) (first past m : ℕ) (work : List ℕ) (from : ℕ) (s : Slots) (old mid new : List ℕ) (half slot size : ℕ) → Sound p → first < past →
+    past ≤ 65536 → m < rowsIn p (past - 1) → Halves p (past - 1 - first) s size → half ≡ halfWith p (past - 1 - first) → slot ≡ s .now + (half - blockOf p) →
+    LastRow p first m work from mid slot → Apart old mid slot (slot + (halfOf p - blockOf p)) → NextRows p first past m work s mid new →
+    Turn p first past m work from s old new
+turn p first past m work from s old mid new half slot size sound l few hm halves eh es row a next =
+    record {
+      is = λ f stands chain ready.
+          next .is f
+          (λ linked.
+          subst (λ (q : ℕ). LastHeld p first (suc m) mid q (f (first - 1)))
+          (let w : slot ≡ s .now + (past - first) * blockOf p = omega (arith, half-linked p linked, one-nearer past first (blockOf p) l) in w)
+          (row .is (f (first - 1)) linked stands))
+          chain
+          record {
+            is = λ d lo hi.
+                let room = half-further p (past - 1 - d) (past - 1 - first) (omega arith) in
+                ready-apart p d m old mid (s .was + (past - 1 - d) * blockOf p) slot (slot + (halfOf p - blockOf p)) (f (d - 1)) (f d) sound (omega arith)
+                (omega (arith, row-earlier p (past - 1) d m sound (omega arith) hm)) a
+                (⊎-elim (λ w. inl (omega (arith, half-room p))) (λ w. inr (omega (arith, half-room p, half-most p))) (halves .either)) (ready .is d lo hi);
+          };
+      len = next .len ∙ a .len;
+    }

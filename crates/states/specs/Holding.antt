@@ -60,8 +60,8 @@ pub record MadeRow (p : Plan) (e m : ℕ) (work : List ℕ) (s : Slots) (old new
 pub record AllReady (p : Plan) (first past m : ℕ) (held : List ℕ) (half : ℕ) (f : ℕ → ℕ → ℕ → ℕ → ℕ) : Type 0 where
   pub is : (d : ℕ) → first ≤ d → d < past → Ready p d m held (half + (past - 1 - d) * blockOf p) (f (d - 1)) (f d)
 
--- row m of all states has been made
-pub record NextRows (p : Plan) (first past m : ℕ) (work : List ℕ) (from : ℕ) (s : Slots) (old new : List ℕ) : Type 0 where
-  pub is : (f : ℕ → ℕ → ℕ → ℕ → ℕ) → LastFrom p first m work from (f (first - 1)) → Chain p first past (λ q. getD work q 0) f →
-      AllReady p first past m old (s .was) f → AllReady p first past (suc m) new (s .now) f
+-- row m of all states has been made, that of the state before them being held beside the place of the first
+pub record NextRows (p : Plan) (first past m : ℕ) (work : List ℕ) (s : Slots) (old new : List ℕ) : Type 0 where
+  pub is : (f : ℕ → ℕ → ℕ → ℕ → ℕ) → (p .linked ≡ true → LastHeld p first (suc m) old (s .now + (past - first) * blockOf p) (f (first - 1))) →
+      Chain p first past (λ q. getD work q 0) f → AllReady p first past m old (s .was) f → AllReady p first past (suc m) new (s .now) f
   pub len : length new ≡ length old

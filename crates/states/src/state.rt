@@ -1,6 +1,7 @@
 // States from the one before, several at once, row after row: row m of the first, then that of the next,
 // and so on. Two rows of each state are held at a time, that of the number before (`was`) and that of this
-// number (`now`), so that of all these states only the last is stored.
+// number (`now`), so that of all these states only the last is stored. A row of one state by itself is made
+// straight away: the function for several would be a call more for each, and a copy of the plan.
 ghost use mathlib.Core.Path.{_≡_};
 ghost use mathlib.Core.Bool.{false};
 ghost use mathlib.Core.Logic.{_⊎_};
@@ -160,7 +161,7 @@ fn make_row(
 }
 
 // Row m of all states, that of the last one first in its half, so that beside the row of each is that of
-// the one before; for the first it comes from the work buffer.
+// the one before; beside that of the first it is held already.
 fn next_rows(
     held: &mut [u16],
     below: &mut [u16],
@@ -168,38 +169,22 @@ fn next_rows(
     plan: Plan,
     states: Stretch,
     m: usize,
-    from: usize,
     slots: Slots,
 )
     requires { ⌜ (Sound plan) × (states .first < states .past) × (states .past ≤ 65536) ⌝ }
-    requires { ⌜ (m < rowsIn plan (states .past - 1)) × (from + stateSize plan ≤ length (now work)) × (keysSize plan ≤ length (now work)) ⌝ }
+    requires { ⌜ (m < rowsIn plan (states .past - 1)) × (keysSize plan ≤ length (now work)) ⌝ }
     requires { ⌜ (Halves plan (furtherIn states) slots (length (now held))) × (plan .across + 7 ≤ length (now below)) ⌝ }
-    ensures { λ _. ⌜ NextRows plan (states .first) (states .past) m (now (work .entry)) from slots (now (held .entry)) (now (held .exit)) ⌝ }
+    ensures { λ _. ⌜ NextRows plan (states .first) (states .past) m (now (work .entry)) slots (now (held .entry)) (now (held .exit)) ⌝ }
     ensures { λ _. ⌜ length (now (below .exit)) ≡ length (now (below .entry)) ⌝ }
 {
     let block = plan.planes * (plan.across + 10);
-    let first = states.first;
-    let mut at = (states.past - 1 - first) * block;
-    hold_last(held, slots.now + at + block, work, from, plan, first, m);
-    make_row(held, below, work, plan, first, m, further(slots, at));
-    let mut e = first + 1;
+    let mut e = states.first;
+    let mut at = (states.past - e) * block;
     while e < states.past {
         at -= block;
         make_row(held, below, work, plan, e, m, further(slots, at));
         e += 1;
     }
-}
-
-// Whether the last of the states is made of others. Where it is not, its rows are made straight away: a call
-// less for each of them.
-fn has_others(plan: Plan, states: Stretch) -> bool
-    requires { ⌜ states .first < states .past ⌝ }
-    ensures { λ r. ⌜ (r ≡ false → (plan .linked ≡ false) × (states .past ≡ states .first + 1)) ⌝ }
-{
-    if plan.linked {
-        return true;
-    }
-    states.past - states.first > 1
 }
 
 // States from the one before at `from`, the last of them at `to`, which may be the same place: a row is
@@ -221,17 +206,19 @@ pub(crate) fn make_states(
     ensures { λ _. ⌜ Advanced plan (states .first) (states .past) (now (work .entry)) (now (work .exit)) from to ⌝ }
     ensures { λ _. ⌜ (length (now (held .exit)) ≡ length (now (held .entry))) × (length (now (below .exit)) ≡ length (now (below .entry))) ⌝ }
 {
-    let many = has_others(plan, states);
+    let first = states.first;
     let e = states.past - 1;
-    let half = half_with(plan, e - states.first);
+    let half = half_with(plan, e - first);
+    let last = half - plan.planes * (plan.across + 10);
     fill_run(held, 0, half, 0);
     let mut slots = Slots { was: 0, now: half };
     let rows = rows_in(plan, e);
     let mut at = to;
     let mut m = 0;
     while m < rows {
-        if many {
-            next_rows(held, below, work, plan, states, m, from, slots);
+        hold_last(held, slots.now + last, work, from, plan, first, m);
+        if first < e {
+            next_rows(held, below, work, plan, states, m, slots);
         } else {
             make_row(held, below, work, plan, e, m, slots);
         }
@@ -264,17 +251,19 @@ pub(crate) fn make_joined(
     ensures { λ _. ⌜ (length (now (held .exit)) ≡ length (now (held .entry))) × (length (now (below .exit)) ≡ length (now (below .entry))) ⌝ }
     ensures { λ _. ⌜ length (now (best .exit)) ≡ length (now (best .entry)) ⌝ }
 {
-    let many = has_others(plan, states);
+    let first = states.first;
     let e = states.past - 1;
-    let half = half_with(plan, e - states.first);
+    let half = half_with(plan, e - first);
+    let last = half - plan.planes * (plan.across + 10);
     fill_run(held, 0, half, 0);
     let mut slots = Slots { was: 0, now: half };
     let size = plan.planes * plan.across;
     let mut at = ends + plan.rows * size;
     let mut m = 0;
     while m < plan.rows {
-        if many {
-            next_rows(held, below, work, plan, states, m, from, slots);
+        hold_last(held, slots.now + last, work, from, plan, first, m);
+        if first < e {
+            next_rows(held, below, work, plan, states, m, slots);
         } else {
             make_row(held, below, work, plan, e, m, slots);
         }

@@ -11,15 +11,15 @@ use Rattle.plans.specs.Plans.{rowsIn, rowSize}
 use Rattle.states.specs.Holding.{Halves, NextRows}
 use Rattle.states.specs.States.{furtherIn}
 use Rattle.plans.proofs.PlanSizes.{rows-few}
-use Rattle.states.proofs.SizeLaws.{row-small, row-fits, row-within, half-room}
-use Rattle.states.proofs.StretchLaws.{halves-room, slotted-at, rows-one, rows-same}
-use Rattle.states.proofs.StateLaws.{halves-first, halves-swapped, kept-apart, Making, making-none, making-more, making-swapped}
+use Rattle.states.proofs.SizeLaws.{block-small, row-small, row-fits, row-earlier, row-within, half-room, half-most}
+use Rattle.states.proofs.StretchLaws.{halves-room, last-room, slotted-at, rows-one, rows-same, Turn, turn}
+use Rattle.states.proofs.StateLaws.{halves-first, halves-same, halves-swapped, kept-apart, Making, making-none, making-more, making-swapped}
 use Rattle.states.proofs.StateLaws.{Stored, stored-none, stored-more, stored-all}
 use Rattle.states.proofs.state.make_states.Statement.{statement}
 use Rattle.states.proofs.state.make_states.Tie as tie
 
 abbrev Inv-loop : tie.InvT-loop
-Inv-loop work₀ held₀ below₀ plan states from to many e half slots₀ rows at₀ m₀ work held below slots at m =
+Inv-loop work₀ held₀ below₀ plan states from to first e half last slots₀ rows at₀ m₀ work held below slots at m =
     (m ≤ rows)
     × (at ≡ to + m * rowSize plan)
     × Halves plan (furtherIn states) slots (length held)
@@ -29,7 +29,7 @@ Inv-loop work₀ held₀ below₀ plan states from to many e half slots₀ rows 
     × Stored plan (states .first) (states .past) m work₀ from work to
 
 abbrev μ-loop : tie.MeasureT-loop
-μ-loop work₀ held₀ below₀ plan states from to many e half slots₀ rows at₀ m₀ work held below slots at m = rows - m
+μ-loop work₀ held₀ below₀ plan states from to first e half last slots₀ rows at₀ m₀ work held below slots at m = rows - m
 
 -- ---- what is known in a turn
 
@@ -40,42 +40,65 @@ start t = t .before .before .before .before .before .before .before .before .bef
 row-left : (t : tie.In-loop Inv-loop μ-loop) → let a = start t .args in t .before .loop .m < rowsIn (a .plan) (a .states .past - 1)
 row-left t = omega (arith, t .loop-test .taken, t .before .before .rows-in .ensures)
 
--- the row, with those of other states or by itself
-turned : (j : tie.Joined1 Inv-loop μ-loop) → let a = start (j .before) .args in let l = j .before .before .loop in
-    NextRows (a .plan) (a .states .first) (a .states .past) (l .m) (l .work) (a .from) (l .slots) (l .held) (j .if1 .held)
+-- the rows of all states, or the one of a state by itself, beside that of the state before
+rows : (j : tie.Joined1 Inv-loop μ-loop) → let t = j .before .before .before .before .before .before .before in let a = start t .args in let l = t .before .loop in
+    NextRows (a .plan) (a .states .first) (a .states .past) (l .m) (l .work) (l .slots) (j .before .before .before .hold-last .last .0) (j .if1 .held)
     × (length (j .if1 .below) ≡ length (l .below))
-turned j =
+rows j =
+    let t = j .before .before .before .before .before .before .before in
+    let s = start t in
+    let l = t .before .loop in
+    let i = l .inv in
+    let b = j .before .before .before .hold-last in
     ⊎-elim
-    (λ w. (rows-same _ _ _ _ _ _ _ _ _ _ (w .4 .ensures .0) (w .9), ap length (w .10) ∙ w .4 .kept .1 .0))
+    (λ w. (rows-same _ _ _ _ _ _ _ _ _ (w .4 .ensures .0) (w .9), ap length (w .10) ∙ w .4 .kept .1 .0))
     (λ w.
-    let alone = j .before .before .before .before .before .before .before .before .before .before .before .has-others .ensures (w .0 .left) in
-    (rows-one _ _ _ _ _ _ _ _ _ _ (alone .0) (alone .1) (w .4 .ensures .0) (w .9), ap length (w .10) ∙ w .4 .kept .1 .0))
+    let alone = let q : s .args .states .past ≡ s .args .states .first + 1 = omega (arith, w .0 .left, s .pre .0) in q in (
+      rows-same _ _ _ _ _ _ _ _ _ (rows-one _ _ _ _ _ _ _ _ _ (s .pre .0 .0) alone (s .pre .0 .2) (row-left t) (i .2) (w .4 .ensures .0)) (w .9),
+      ap length (w .10) ∙ w .4 .kept .1 .0,
+    ))
     (j .if1 .came)
 
-made : (j : tie.Joined1 Inv-loop μ-loop) → let a = start (j .before) .args in let l = j .before .before .loop in
+turned : (j : tie.Joined1 Inv-loop μ-loop) → let t = j .before .before .before .before .before .before .before in let a = start t .args in let l = t .before .loop in
+    Turn (a .plan) (a .states .first) (a .states .past) (l .m) (l .work) (a .from) (l .slots) (l .held) (j .if1 .held)
+turned j =
+    let t = j .before .before .before .before .before .before .before in
+    let s = start t in
+    let l = t .before .loop in
+    let b = j .before .before .before .hold-last .ensures in
+    turn _ _ _ _ _ _ _ _ _ _ _ _ _ (s .pre .0 .0) (s .pre .0 .1) (s .pre .0 .2) (row-left t) (l .inv .2) (t .before .before .before .before .before .before .before .before .before .half-with .ensures .0) refl (b .0) (b .1) (rows j .0)
+
+made : (j : tie.Joined1 Inv-loop μ-loop) → let t = j .before .before .before .before .before .before .before in let a = start t .args in let l = t .before .loop in
     Making (a .plan) (a .states .first) (a .states .past) (suc (l .m)) (a .work .now) (a .from) (j .if1 .held) (l .slots .now)
 made j =
-    let s = start (j .before) in
-    let l = j .before .before .loop in
+    let t = j .before .before .before .before .before .before .before in
+    let s = start t in
+    let l = t .before .loop in
     let kept = kept-apart (s .args .plan) (l .m) _ (l .work) (s .args .from) (s .args .to) (s .pre .1 .0 .1) (s .pre .1 .1 .0) (l .inv .6 .apart) in
-    making-more _ _ _ _ _ _ _ _ _ _ (s .pre .0 .0) (s .pre .0 .1) (s .pre .0 .2) kept (l .inv .5) (turned j .0)
+    making-more _ _ _ _ _ _ _ _ _ _ (s .pre .0 .0) (s .pre .0 .1) (s .pre .0 .2) kept (l .inv .5) (turned j)
 
 -- ---- the needs
 
-has-others-requires : tie.Need-has-others-requires Inv-loop μ-loop
-has-others-requires c κs = c .before .before .before .pre .0 .1
-
 sub-e : tie.Need-sub-e Inv-loop μ-loop
-sub-e c = omega (arith, c .before .before .before .before .before .pre .0 .1)
+sub-e c = omega (arith, c .before .before .before .before .pre .0 .1)
 
 sub-half-with : tie.Need-sub-half-with Inv-loop μ-loop
-sub-half-with c = omega (arith, c .before .before .before .before .before .before .pre .0 .1)
+sub-half-with c = omega (arith, c .before .before .before .before .pre .0 .1)
 
 half-with-requires : tie.Need-half-with-requires Inv-loop μ-loop
-half-with-requires c κs = let s = c .before .before .before .before .before .before in (s .pre .0 .0 .few-planes, s .pre .0 .0 .few-across, omega (arith, s .pre .0))
+half-with-requires c κs = let s = c .before .before .before .before in (s .pre .0 .0 .few-planes, s .pre .0 .0 .few-across, omega (arith, s .pre .0))
+
+add-last : tie.Need-add-last Inv-loop μ-loop
+add-last c = omega (arith, c .before .before .before .before .before .before .pre .0 .0 .few-across)
+
+mul-last : tie.Need-mul-last Inv-loop μ-loop
+mul-last c = let p = c .before .before .before .before .before .before .before .pre .0 .0 in omega (arith, block-small _ _ (p .few-planes) (p .few-across))
+
+sub-last : tie.Need-sub-last Inv-loop μ-loop
+sub-last c = omega (arith, half-room (c .before .before .before .before .before .before .before .args .plan), c .before .before .half-with .ensures)
 
 fill-run-requires : tie.Need-fill-run-requires Inv-loop μ-loop
-fill-run-requires c κs = omega (arith, c .before .before .before .before .before .before .before .before .pre .1 .1 .1, c .before .half-with .ensures)
+fill-run-requires c κs = omega (arith, c .before .before .before .before .before .before .before .before .pre .1 .1 .1, c .before .before .before .half-with .ensures)
 
 rows-in-requires : tie.Need-rows-in-requires Inv-loop μ-loop
 rows-in-requires c κs = search needs
@@ -83,7 +106,7 @@ rows-in-requires c κs = search needs
 loop-holds : tie.Need-loop-holds Inv-loop μ-loop
 loop-holds c =
     let s = c .before .before .before .before .before .before .before .before .before .before .before .before in
-    let h = c .before .before .before .before .before .half-with .ensures in
+    let h = c .before .before .before .before .before .before .before .half-with .ensures in
     let f = c .before .before .before .fill-run in (
       omega arith,
       omega arith,
@@ -94,47 +117,67 @@ loop-holds c =
       stored-none _ _ _ _ _ _,
     )
 
-next-rows-requires : tie.Need-next-rows-requires Inv-loop μ-loop
-next-rows-requires c κs =
-    let t = c .before .before .before .before in
+add-hold-last : tie.Need-add-hold-last Inv-loop μ-loop
+add-hold-last c =
+    let t = c .before .before in
+    omega (arith, last-room _ _ _ _ _ (t .before .loop .inv .2) (t .before .before .before .before .before .before .before .before .before .half-with .ensures .0))
+
+hold-last-requires : tie.Need-hold-last-requires Inv-loop μ-loop
+hold-last-requires c κs =
+    let t = c .before .before .before in
     let s = start t in
-    let i = t .before .loop .inv in
-    let len = i .6 .apart .len in (
-      s .pre .0,
+    let a = s .args in
+    let l = t .before .loop in (
+      s .pre .0 .0,
       (
-        (row-left t, omega (arith, s .pre .1 .0, len), omega (arith, s .pre .1 .0, len)),
-        (i .2, omega (arith, s .pre .1 .1 .1, i .4)),
+        omega (arith, s .pre .0),
+        row-earlier (a .plan) (a .states .past - 1) (a .states .first) (l .m) (s .pre .0 .0) (omega (arith, s .pre .0)) (row-left t),
+        last-room _ _ _ _ _ (l .inv .2) (t .before .before .before .before .before .before .before .before .before .half-with .ensures .0) .0,
+        omega (arith, s .pre .1 .0, l .inv .6 .apart .len),
       ),
     )
 
+next-rows-requires : tie.Need-next-rows-requires Inv-loop μ-loop
+next-rows-requires c κs =
+    let t = c .before .before .before .before .before .before .before .before .before .before in
+    let s = start t in
+    let i = t .before .loop .inv in
+    let b = c .before .before .before .before .before .before .hold-last .kept .0 in
+    (s .pre .0, ((row-left t, omega (arith, s .pre .1 .0, i .6 .apart .len)), (halves-same _ _ _ _ _ (i .2) b, omega (arith, s .pre .1 .1 .1, i .4))))
+
 make-row-requires : tie.Need-make-row-requires Inv-loop μ-loop
 make-row-requires c κs =
-    let t = c .before .before .before .before in
+    let t = c .before .before .before .before .before .before .before .before .before .before in
     let s = start t in
-    let i = t .before .loop .inv in (
+    let i = t .before .loop .inv in
+    let b = c .before .before .before .before .before .before .hold-last .kept .0 in (
       s .pre .0 .0,
       (
         (omega (arith, s .pre .0), row-left t, omega (arith, s .pre .1 .0, i .6 .apart .len)),
-        (slotted-at (s .args .plan) 0 _ _ _ _ (i .2) (omega arith) (omega arith) (omega arith), omega (arith, s .pre .1 .1 .1, i .4)),
+        (
+          slotted-at (s .args .plan) 0 _ _ _ _ (halves-same _ _ _ _ _ (i .2) b) (omega arith) (omega arith) (omega arith),
+          omega (arith, s .pre .1 .1 .1, i .4),
+        ),
       ),
     )
 
 row-in-requires : tie.Need-row-in-requires Inv-loop μ-loop
 row-in-requires c κs =
-    let t = c .before in
+    let t = c .before .before .before .before .before .before .before in
     let s = start t in
     (s .pre .0 .0, (omega (arith, s .pre .0), row-left t))
 
 store-row-requires : tie.Need-store-row-requires Inv-loop μ-loop
 store-row-requires c κs =
-    let t = c .before .before .before .before in
+    let j = c .before .before .before in
+    let t = j .before .before .before .before .before .before .before in
     let s = start t in
     let l = t .before .loop in
     let p = s .args .plan in
     let e = s .args .states .past - 1 in
     let r = c .before .before .row-in in (
       row-fits p e (l .m) (r .result) (s .pre .0 .0) (omega (arith, s .pre .0)) (row-left t) (r .ensures .0) (r .ensures .1),
-      omega (arith, half-room p, halves-room p 0 _ (l .slots) _ (l .inv .2) (omega arith), turned (c .before .before .before) .0 .len),
+      omega (arith, half-room p, halves-room p 0 _ (l .slots) _ (l .inv .2) (omega arith), turned j .len),
       omega (arith, row-within p e (l .m) (row-left t), s .pre .1 .0, l .inv .1, l .inv .6 .apart .len),
     )
 
@@ -143,41 +186,42 @@ swapped-requires c κs = search needs
 
 mul-at : tie.Need-mul-at Inv-loop μ-loop
 mul-at c =
-    let s = c .before .before .before .before .before .before .before .before .before .before .before .before .before .before .before .before .before .before .before .before .before .before .before in
-    omega (arith, row-small (s .args .plan .planes) (s .args .plan .across) (s .pre .0 .0 .few-planes) (s .pre .0 .0 .few-across))
+    let p = c .before .before .before .before .before .before .before .before .before .before .before .before .before .before .before .before .before .before .before .before .before .before .before .before .before .before .before .before .before .args .plan in
+    let q = c .before .before .before .before .before .before .before .before .before .before .before .before .before .before .before .before .before .before .before .before .before .before .before .before .before .before .before .before .before .pre .0 .0 in
+    omega (arith, row-small (p .planes) (p .across) (q .few-planes) (q .few-across))
 
 add-at : tie.Need-add-at Inv-loop μ-loop
 add-at c =
-    let t = c .before .before .before .before .before .before .before .before .before in
+    let t = c .before .before .before .before .before .before .before .before .before .before .before .before .before .before .before in
     let s = start t in
     let l = t .before .loop in
     omega (arith, row-within (s .args .plan) (s .args .states .past - 1) (l .m) (row-left t), s .pre .1 .0, s .good .0, l .inv .1)
 
 add-m : tie.Need-add-m Inv-loop μ-loop
 add-m c =
-    let t = c .before .before .before .before .before .before .before .before .before in
+    let t = c .before .before .before .before .before .before .before .before .before .before .before .before .before .before .before in
     let s = start t in
     omega (arith, row-left t, rows-few (s .args .plan) (s .args .states .past - 1), s .pre .0 .0 .few-rows)
 
 loop-less : tie.Need-loop-less Inv-loop μ-loop
-loop-less c = omega (arith, c .before .before .before .before .before .before .before .before .before .loop-test .taken)
+loop-less c = omega (arith, c .before .before .before .before .before .before .before .before .before .before .before .before .before .before .before .loop-test .taken)
 
 loop-again : tie.Need-loop-again Inv-loop μ-loop
 loop-again c =
     let j = c .before .before .before .before .before .before .before .before in
-    let t = j .before in
+    let t = j .before .before .before .before .before .before .before in
     let s = start t in
     let l = t .before .loop in
     let i = l .inv in
-    let k = turned j in
+    let len = turned j .len in
     let r = c .before .before .before .before .before .before .before .row-in .ensures in
     let o = c .before .before .before .before .store-row .ensures in
     let w = c .before .swapped .ensures in (
       omega (arith, t .loop-test .taken),
       omega (arith, i .1, add-mul (l .m) 1 (rowSize (s .args .plan))),
-      halves-swapped _ _ _ _ _ _ (i .2) (w .0) (w .1) (k .0 .len),
-      k .0 .len ∙ i .3,
-      k .1 ∙ i .4,
+      halves-swapped _ _ _ _ _ _ (i .2) (w .0) (w .1) len,
+      len ∙ i .3,
+      rows j .1 ∙ i .4,
       making-swapped _ _ _ _ _ _ _ _ _ _ (made j) refl (w .0),
       stored-more _ _ _ _ _ _ _ _ _ _ _ _ _ _ _ (s .pre .0 .0) (s .pre .0 .1) (s .pre .0 .2) (row-left t) refl (i .1) (r .0) (r .1) (i .6) (made j)
           (o .0) (o .1),
@@ -205,13 +249,17 @@ make-states-spec =
     (tie.spec
     Inv-loop
     μ-loop
-    has-others-requires
     sub-e
     sub-half-with
     half-with-requires
+    add-last
+    mul-last
+    sub-last
     fill-run-requires
     rows-in-requires
     loop-holds
+    add-hold-last
+    hold-last-requires
     next-rows-requires
     make-row-requires
     row-in-requires

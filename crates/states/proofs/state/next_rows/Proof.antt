@@ -1,8 +1,6 @@
--- `next_rows` meets its contract. The row of the state before the first comes beside the place of the first's; then each state's row is made beside
--- that of the one before, one row nearer to the beginning of the half.
+-- `next_rows` meets its contract. Each state's row is made beside that of the state before, one row nearer to the beginning of the half.
 use Prim.Native.Nat.{ℕ, _+_, _-_, _*_, _≤_, _<_}
 use mathlib.Core.Path.{_≡_, refl, ap, _∙_, subst, sym}
-use mathlib.Core.List.{List}
 use native.Mathlib.Omega.{arith}
 use lib.ListN.{length}
 use Rattle.plans.specs.Plans.{rowsIn, blockOf, halfOf}
@@ -15,17 +13,15 @@ use Rattle.states.proofs.state.next_rows.Statement.{statement}
 use Rattle.states.proofs.state.next_rows.Tie as tie
 
 abbrev Inv-loop : tie.InvT-loop
-Inv-loop held₀ below₀ work plan states m from slots block first at₀ e₀ held below at e =
-    (states .first < e)
+Inv-loop held₀ below₀ work plan states m slots block e₀ at₀ held below e at =
+    (states .first ≤ e)
     × (e ≤ states .past)
     × (at ≡ (states .past - e) * blockOf plan)
-    × (length held ≡ length held₀)
     × (length below ≡ length below₀)
-    × ((old : List ℕ) → RowsTo plan (states .first) (states .past) m (states .first + 1) work from slots old held₀ →
-    RowsTo plan (states .first) (states .past) m e work from slots old held)
+    × RowsTo plan (states .first) (states .past) m e work slots held₀ held
 
 abbrev μ-loop : tie.MeasureT-loop
-μ-loop held₀ below₀ work plan states m from slots block first at₀ e₀ held below at e = states .past - e
+μ-loop held₀ below₀ work plan states m slots block e₀ at₀ held below e at = states .past - e
 
 -- ---- what is known of a state of the stretch
 
@@ -46,128 +42,66 @@ slotted s d size t l e ew en =
 has-row : (s : tie.Start Inv-loop μ-loop) (d : ℕ) → let a = s .args in d < a .states .past → a .m < rowsIn (a .plan) d
 has-row s d l = row-earlier (s .args .plan) (s .args .states .past - 1) d (s .args .m) (s .pre .0 .0) (omega arith) (s .pre .1 .0 .0)
 
-block : (s : tie.Start Inv-loop μ-loop) → blockOf (s .args .plan) ≤ 9306
-block s = block-small _ _ (s .pre .0 .0 .few-planes) (s .pre .0 .0 .few-across)
-
--- ---- up to the first state's row
+-- ---- up to the loop
 
 add-block : tie.Need-add-block Inv-loop μ-loop
 add-block c = omega (arith, c .before .before .before .before .pre .0 .0 .few-across)
 
 mul-block : tie.Need-mul-block Inv-loop μ-loop
-mul-block c = omega (arith, block (c .before .before .before .before .before))
+mul-block c = let p = c .before .before .before .before .before .pre .0 .0 in omega (arith, block-small _ _ (p .few-planes) (p .few-across))
 
 sub-at : tie.Need-sub-at Inv-loop μ-loop
 sub-at c = omega (arith, c .before .before .before .before .before .before .pre .0 .1)
 
-sub-at-2 : tie.Need-sub-at-2 Inv-loop μ-loop
-sub-at-2 c = omega (arith, c .before .before .before .before .before .before .pre .0 .1)
-
 mul-at : tie.Need-mul-at Inv-loop μ-loop
-mul-at c = let s = c .before .before .before .before .before .before in omega (arith, room s (s .args .states .first) (omega arith))
-
-add-hold-last : tie.Need-add-hold-last Inv-loop μ-loop
-add-hold-last c = let s = c .before .before .before .before .before .before .before .before in omega (arith, room s (s .args .states .first) (omega arith))
-
-add-hold-last-2 : tie.Need-add-hold-last-2 Inv-loop μ-loop
-add-hold-last-2 c = let s = c .before .before .before .before .before .before .before .before in omega (arith, half-room (s .args .plan), room s (s .args .states .first) (omega arith))
-
-hold-last-requires : tie.Need-hold-last-requires Inv-loop μ-loop
-hold-last-requires c κs =
-    let s = c .before .before .before .before .before .before .before .before in
-    let first = s .args .states .first in (
-      s .pre .0 .0,
-      (
-        omega (arith, s .pre .0),
-        has-row s first (omega (arith, s .pre .0)),
-        omega (arith, half-room (s .args .plan), room s first (omega arith)),
-        s .pre .1 .0 .1,
-      ),
-    )
-
-further-requires : tie.Need-further-requires Inv-loop μ-loop
-further-requires c κs = let s = c .before .before .before .before .before .before .before .before .before .before .before .before .before in omega (arith, room s (s .args .states .first) (omega arith))
-
-make-row-requires : tie.Need-make-row-requires Inv-loop μ-loop
-make-row-requires c κs =
-    let s = c .before .before .before .before .before .before .before .before .before .before .before .before .before .before in
-    let first = s .args .states .first in
-    let t = c .further in (
-      s .pre .0 .0,
-      (
-        (omega (arith, s .pre .0), has-row s first (omega (arith, s .pre .0)), s .pre .1 .0 .2),
-        (slotted s first _ (t .result) (omega arith) (c .before .before .before .before .before .hold-last .kept .0) (t .ensures .0) (t .ensures .1), s .pre .1 .1 .1),
-      ),
-    )
-
--- the first state's row has been made
-first-made : (r : tie.After-make-row Inv-loop μ-loop) → let a = r .before .before .before .before .before .before .before .before .before .before .before .before .before .before .before .args in
-    RowsTo (a .plan) (a .states .first) (a .states .past) (a .m) (a .states .first + 1) (a .work .now) (a .from) (a .slots) (a .held .now) (r .make-row .last .0)
-first-made r =
-    let s = r .before .before .before .before .before .before .before .before .before .before .before .before .before .before .before in
-    let h = r .before .before .before .before .before .before .hold-last .ensures in
-    let t = r .before .further in
-    rows-more _ _ _ _ _ _ _ _ (s .args .states .first) _ _ _ (t .result) _ (s .pre .0 .0) (omega arith) (s .pre .0 .1) (s .pre .0 .2) (s .pre .1 .0 .0) refl
-    (s .pre .1 .1 .0) (t .ensures .0) (t .ensures .1) (rows-none _ _ _ _ _ _ _ _ _ _ (s .pre .0 .1) refl (h .0) (h .1)) (r .make-row .ensures .0)
-
-add-e : tie.Need-add-e Inv-loop μ-loop
-add-e c = omega (arith, c .before .before .before .before .before .before .before .before .before .before .before .before .before .before .before .before .before .before .before .pre .0)
+mul-at c =
+    let s = c .before .before .before .before .before .before in
+    let a = s .args in
+    omega (arith, half-room (a .plan), room s (a .states .first) (omega arith), one-nearer (a .states .past) (a .states .first) (blockOf (a .plan)) (s .pre .0 .1))
 
 loop-holds : tie.Need-loop-holds Inv-loop μ-loop
-loop-holds c =
-    let s = c .before .before .before .before .before .before .before .before .before .before .before .before .before .before .before .before .before .before .before in (
-      omega arith,
-      omega (arith, s .pre .0),
-      ap (λ (q : ℕ). q * blockOf (s .args .plan)) (omega arith),
-      refl,
-      refl,
-      λ old rows. rows,
-    )
+loop-holds c = let s = c .before .before .before .before .before .before in (omega arith, omega (arith, s .pre .0), refl, refl, rows-none _ _ _ _ _ _ _)
 
 -- ---- a turn
 
 abbrev start : tie.At-loop Inv-loop μ-loop → tie.Start Inv-loop μ-loop
-start h = h .before .before .before .before .before .before .before .before .before .before .before .before .before .before .before .before .before .before .before .before
+start h = h .before .before .before .before .before .before .before
 
 -- the rows of this state are one row nearer
 nearer : (h : tie.At-loop Inv-loop μ-loop) → let a = start h .args in h .loop .e < a .states .past →
     h .loop .at ≡ (a .states .past - 1 - h .loop .e) * blockOf (a .plan) + blockOf (a .plan)
 nearer h l = h .loop .inv .2 ∙ one-nearer _ _ _ l
 
-sub-at-3 : tie.Need-sub-at-3 Inv-loop μ-loop
-sub-at-3 c = omega (arith, nearer (c .before .before) (c .if1 .taken))
+sub-at-2 : tie.Need-sub-at-2 Inv-loop μ-loop
+sub-at-2 c = omega (arith, nearer (c .before .before) (c .if1 .taken))
 
-further-requires-2 : tie.Need-further-requires-2 Inv-loop μ-loop
-further-requires-2 c κs =
+further-requires : tie.Need-further-requires Inv-loop μ-loop
+further-requires c κs =
     let h = c .before .before .before .before in
     omega (arith, nearer h (c .before .before .if1 .taken), room (start h) (h .loop .e) (omega (arith, h .loop .inv .0)))
 
-own : (r : tie.After-further2 Inv-loop μ-loop) → let h = r .before .before .before .before .before in let a = start h .args in
-    (r .further2 .result .was ≡ a .slots .was + (a .states .past - 1 - h .loop .e) * blockOf (a .plan))
-    × (r .further2 .result .now ≡ a .slots .now + (a .states .past - 1 - h .loop .e) * blockOf (a .plan))
+own : (r : tie.After-further Inv-loop μ-loop) → let h = r .before .before .before .before .before in let a = start h .args in
+    (r .further .result .was ≡ a .slots .was + (a .states .past - 1 - h .loop .e) * blockOf (a .plan))
+    × (r .further .result .now ≡ a .slots .now + (a .states .past - 1 - h .loop .e) * blockOf (a .plan))
 own r =
     let n = nearer (r .before .before .before .before .before) (r .before .before .before .if1 .taken) in
-    (omega (arith, n, r .further2 .ensures), omega (arith, n, r .further2 .ensures))
+    (omega (arith, n, r .further .ensures), omega (arith, n, r .further .ensures))
 
-make-row-requires-2 : tie.Need-make-row-requires-2 Inv-loop μ-loop
-make-row-requires-2 c κs =
+make-row-requires : tie.Need-make-row-requires Inv-loop μ-loop
+make-row-requires c κs =
     let h = c .before .before .before .before .before in
     let s = start h in
     let l = h .loop in
-    let taken = c .before .before .before .if1 .taken in
-    let held = l .inv .3 ∙ c .before .before .before .before .before .before .before .before .before .before .make-row .kept .0 ∙ c .before .before .before .before .before .before .before .before .before .before .before .before .before .before .before .before .hold-last .kept .0 in (
+    let taken = c .before .before .before .if1 .taken in (
       s .pre .0 .0,
       (
-        (omega (arith, s .pre .0, taken), has-row s (l .e) taken, s .pre .1 .0 .2),
-        (
-          slotted s (l .e) _ (c .further2 .result) (omega (arith, l .inv .0)) held (own c .0) (own c .1),
-          omega (arith, s .pre .1 .1 .1, l .inv .4, c .before .before .before .before .before .before .before .before .before .before .make-row .kept .1 .0),
-        ),
+        (omega (arith, s .pre .0, taken), has-row s (l .e) taken, s .pre .1 .0 .1),
+        (slotted s (l .e) _ (c .further .result) (omega (arith, l .inv .0)) (l .inv .4 .apart .len) (own c .0) (own c .1), omega (arith, s .pre .1 .1 .1, l .inv .3)),
       ),
     )
 
-add-e-2 : tie.Need-add-e-2 Inv-loop μ-loop
-add-e-2 c = omega (arith, c .before .before .before .before .before .before .before .before .if1 .taken, c .before .before .before .before .before .before .before .before .before .before .before .before .before .before .before .before .before .before .before .before .before .before .before .before .before .before .before .before .before .before .pre .0)
+add-e : tie.Need-add-e Inv-loop μ-loop
+add-e c = let h = c .before .before .before .before .before .before .before .before .before .before in omega (arith, c .before .before .before .before .before .before .before .before .if1 .taken, start h .pre .0)
 
 loop-less : tie.Need-loop-less Inv-loop μ-loop
 loop-less c = omega (arith, c .before .before .before .before .before .before .before .before .if1 .taken)
@@ -178,35 +112,30 @@ loop-again c =
     let s = start h in
     let l = h .loop in
     let f = c .before .before .before .before .before in
-    let r = c .before .before .before .before .make-row2 in
+    let r = c .before .before .before .before .make-row in
     let taken = c .before .before .before .before .before .before .before .before .if1 .taken in
     let next : (s .args .states .past - (l .e + 1)) * blockOf (s .args .plan) ≡ (s .args .states .past - 1 - l .e) * blockOf (s .args .plan) =
     ap (λ (q : ℕ). q * blockOf (s .args .plan)) (omega arith) in (
       omega (arith, l .inv .0),
       omega (arith, taken),
       omega (arith, nearer h taken, next),
-      r .kept .0 ∙ l .inv .3,
-      r .kept .1 .0 ∙ l .inv .4,
-      λ old rows.
-          rows-more _ _ _ _ _ _ _ _ (l .e) _ _ _ (f .further2 .result) _ (s .pre .0 .0) (omega (arith, l .inv .0)) taken (s .pre .0 .2) (s .pre .1 .0 .0) refl
-          (s .pre .1 .1 .0) (own f .0) (own f .1) (l .inv .5 old rows) (r .ensures .0),
+      r .kept .1 .0 ∙ l .inv .3,
+      rows-more _ _ _ _ _ _ _ (l .e) _ _ _ (f .further .result) _ (s .pre .0 .0) (l .inv .0) taken (s .pre .0 .2) (s .pre .1 .0 .0) refl (s .pre .1 .1 .0)
+          (own f .0) (own f .1) (l .inv .4) (r .ensures .0),
     )
 
 -- ---- the end
 
 same-length : tie.Need-same-length Inv-loop μ-loop
-same-length c =
-    c .before .before .loop .inv .3 ∙ c .before .before .before .before .before .before .before .make-row .kept .0 ∙ c .before .before .before .before .before .before .before .before .before .before .before .before .before .hold-last .kept .0
+same-length c = c .before .before .loop .inv .4 .apart .len
 
 same-length-2 : tie.Need-same-length-2 Inv-loop μ-loop
-same-length-2 c = c .before .before .loop .inv .4 ∙ c .before .before .before .before .before .before .before .make-row .kept .1 .0
+same-length-2 c = c .before .before .loop .inv .3
 
 returns : tie.Need-returns Inv-loop μ-loop
 returns c =
-    let l = c .before .before .loop in (
-      rows-all _ _ _ _ _ _ _ _ (l .e) _ (omega (arith, c .if1 .left)) (l .inv .5 _ (first-made (c .before .before .before .before .before .before .before))),
-      l .inv .4 ∙ c .before .before .before .before .before .before .before .make-row .kept .1 .0,
-    )
+    let l = c .before .before .loop in
+    (rows-all _ _ _ _ _ _ _ (l .e) _ (omega (arith, c .if1 .left)) (l .inv .4), l .inv .3)
 
 pub next-rows-spec : {M : Type 1} → statement M
 next-rows-spec =
@@ -217,19 +146,12 @@ next-rows-spec =
     add-block
     mul-block
     sub-at
-    sub-at-2
     mul-at
-    add-hold-last
-    add-hold-last-2
-    hold-last-requires
+    loop-holds
+    sub-at-2
     further-requires
     make-row-requires
     add-e
-    loop-holds
-    sub-at-3
-    further-requires-2
-    make-row-requires-2
-    add-e-2
     loop-less
     loop-again
     same-length
