@@ -24,7 +24,7 @@ use Rattle.directions.proofs.FilterLaws.{ranks-fit, still-few, straight
 pub record Roomy (p : Plan) (room : ℕ) : Type 0 where
   pub alone : keysSize p + stateSize p ≤ room
   pub pair : p .linked ≡ true → keysSize p + 2 * stateSize p ≤ room
-  pub halves : halfOf p + halfOf p ≤ 18612
+  pub halves : halfOf p + halfOf p ≤ 18720
   pub row : p .across + 7 ≤ 1032
   pub keys : keysSize p ≤ 65536
   pub some : 1 ≤ stateSize p
@@ -47,12 +47,12 @@ short-below lines across h few =
       | inr k ↦ absurd (omega (arith, mul-le-mul-right across h, mul-le-mul {n₁ = 257} {m₁ = 257} {n₂ = across} {m₂ = across} k k))
     ]
 
-block-below : (planes across n : ℕ) → planes ≤ 9 → across ≤ n → planes * (across + 10) ≤ 9 * (n + 10)
-block-below planes across n h k = mul-le-mul {n₁ = planes} {m₁ = across + 10} {n₂ = 9} {m₂ = n + 10} h (omega arith)
+block-below : (planes across n : ℕ) → planes ≤ 9 → across ≤ n → planes * (across + 16) ≤ 9 * (n + 16)
+block-below planes across n h k = mul-le-mul {n₁ = planes} {m₁ = across + 16} {n₂ = 9} {m₂ = n + 16} h (omega arith)
 
 -- ---- plans
 
-half-below : (p : Plan) → p .planes ≤ 9 → p .across ≤ 1024 → (p .linked ≡ true → p .across ≤ 256) → halfOf p + halfOf p ≤ 18612
+half-below : (p : Plan) → p .planes ≤ 9 → p .across ≤ 1024 → (p .linked ≡ true → p .across ≤ 256) → halfOf p + halfOf p ≤ 18720
 unfolding halfOf
 half-below p few wide short =
     elim (true-or-false (p .linked)) [

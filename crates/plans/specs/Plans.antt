@@ -69,7 +69,7 @@ startsAt p m x = cond (p .lone) (eqb m 0 && eqb x (p .pixel)) true
 
 -- a held row has a zero before its pixels and room for some numbers after them
 abbrev pub pitchOf : Plan → ℕ
-pitchOf p = p .across + 10
+pitchOf p = p .across + 16
 
 abbrev pub blockOf : Plan → ℕ
 blockOf p = p .planes * pitchOf p

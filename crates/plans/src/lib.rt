@@ -7,6 +7,7 @@ mod plan;
 pub use ends::MAX_KEY;
 pub use ends::gap_end;
 pub use form::is_well_formed;
+pub use plan::MARGIN;
 pub use plan::Plan;
 pub use plan::Reach;
 pub use plan::Row;

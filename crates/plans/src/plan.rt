@@ -4,6 +4,11 @@ ghost use mathlib.Core.Path.{_≡_};
 ghost use Prim.Native.Nat.{_+_, _-_, _≤_, _<_};
 ghost use Rattle.plans.specs.Plans.{lineOf, firstIn, pastIn, keysOf, orderOf, isSmall, rowOf, rowsIn};
 
+// How many numbers more than pixels each plane of a held row has: a zero before them and one after, and up to
+// seven that are made past the row, so that all are whole vectors of eight. A multiple of eight, so that the
+// planes begin where vectors do if the first one does and the pixels are eights.
+pub const MARGIN: usize = 16;
+
 // Where the three steps find their numbers: in the row before of the same state (y 0), in the row before
 // of the last state (1) or in the same row of the last state (2); one pixel back, none or one on, plus one.
 pub struct Reach {

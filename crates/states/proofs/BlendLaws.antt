@@ -105,22 +105,16 @@ module _ (p : Plan) (t0 t1 t2 to size lo n past T0 T1 T2 TO : ℕ)
         )
 
     -- a plane more, by a run that makes the right numbers
-    pub blending-more :
-        (g : ℕ → ℕ) (new under below : List ℕ) →
+    pub plane-more :
+        (g : ℕ → ℕ) (new : List ℕ) →
         Between g mid new TO (TO + n) →
-        Between (λ k. greatestAt mid T0 T1 T2 k) under below 0 n →
         ((x : ℕ) → x < n → g (TO + x) ≡ max (min (key (lo + x)) (greatestAt mid T0 T1 T2 x)) (layerAhead old (pitchOf p) t0 t1 t2 past (lo + x))) →
-        Blending old new below key p t0 t1 t2 to lo n (past + 1)
-    blending-more g new under below b u rule =
-        record {
-          made = planes-more (In (lo + 1) (lo + n + 1)) _ old mid new (to - 1) (pitchOf p) past (λ X i. omega (arith, i)) s
-              (plane-run g (λ X. blended old (pitchOf p) t0 t1 t2 key past (X - 1)) mid new (to - 1) (past * pitchOf p) (pitchOf p)
-              (lo + 1) (lo + n + 1) TO (TO + n) b
-              (omega (arith, clear .some, at-taps .is-to)) (omega (arith, clear .some, at-taps .is-to)) (omega arith) here);
-          kept = λ x l.
-              u .inside x (omega arith) l ∙ layer x l
-              ∙ ap (λ (k : ℕ). layerAhead old (pitchOf p) t0 t1 t2 k (lo + x)) (let e : suc past ≡ past + 1 = omega arith in e);
-        }
+        Planes (In (lo + 1) (lo + n + 1)) (λ j X. blended old (pitchOf p) t0 t1 t2 key j (X - 1)) old new (to - 1) (pitchOf p) (past + 1)
+    plane-more g new b rule =
+        planes-more (In (lo + 1) (lo + n + 1)) _ old mid new (to - 1) (pitchOf p) past (λ X i. omega (arith, i)) s
+        (plane-run g (λ X. blended old (pitchOf p) t0 t1 t2 key past (X - 1)) mid new (to - 1) (past * pitchOf p) (pitchOf p)
+        (lo + 1) (lo + n + 1) TO (TO + n) b
+        (omega (arith, clear .some, at-taps .is-to)) (omega (arith, clear .some, at-taps .is-to)) (omega arith) here)
       where
         here : (X : ℕ) → lo + 1 ≤ X → X < lo + n + 1 → g (to - 1 + (past * pitchOf p + X)) ≡ blended old (pitchOf p) t0 t1 t2 key past (X - 1)
         here X a b =
@@ -130,6 +124,21 @@ module _ (p : Plan) (t0 t1 t2 to size lo n past T0 T1 T2 TO : ℕ)
             ap g e ∙ rule x (omega arith)
             ∙ ap (λ (v : ℕ). max (min (key (lo + x)) v) (layerAhead old (pitchOf p) t0 t1 t2 past (lo + x))) (layer x (omega arith))
             ∙ ap (blended old (pitchOf p) t0 t1 t2 key past) d
+
+    -- and with what is kept of it
+    pub blending-more :
+        (g : ℕ → ℕ) (new under below : List ℕ) →
+        Between g mid new TO (TO + n) →
+        Between (λ k. greatestAt mid T0 T1 T2 k) under below 0 n →
+        ((x : ℕ) → x < n → g (TO + x) ≡ max (min (key (lo + x)) (greatestAt mid T0 T1 T2 x)) (layerAhead old (pitchOf p) t0 t1 t2 past (lo + x))) →
+        Blending old new below key p t0 t1 t2 to lo n (past + 1)
+    blending-more g new under below b u rule =
+        record {
+          made = plane-more g new b rule;
+          kept = λ x l.
+              u .inside x (omega arith) l ∙ layer x l
+              ∙ ap (λ (k : ℕ). layerAhead old (pitchOf p) t0 t1 t2 k (lo + x)) (let e : suc past ≡ past + 1 = omega arith in e);
+        }
 
 -- ---- by what the leaves make
 
@@ -158,6 +167,19 @@ module _ (p : Plan) (t0 t1 t2 to size lo n T0 T1 T2 TO : ℕ) (keys old : List �
   blending-first new under below l at-taps b u =
       blending-more p t0 t1 t2 to size lo n 0 T0 T1 T2 TO clear room l at-taps old old Key (planes-none _ _ old (to - 1) (pitchOf p)) _ new under below b u
       (λ x m. rw (key-at x, place x) (omega arith))
+
+  -- the same where it is the only one, and nothing is kept
+  pub plane-sole :
+      (new : List ℕ) →
+      p .planes ≡ 1 →
+      TapsAt T0 T1 T2 TO t0 t1 t2 to lo (0 * pitchOf p) →
+      Between (λ k. min (getD keys (at + (k - TO)) 0) (greatestAt old T0 T1 T2 (k - TO))) old new TO (TO + n) →
+      Planes (In (lo + 1) (lo + n + 1)) (λ j X. blended old (pitchOf p) t0 t1 t2 Key j (X - 1)) old new (to - 1) (pitchOf p) (p .planes)
+  unfolding layerAhead
+  plane-sole new sole at-taps b =
+      subst (λ (m : ℕ). Planes (In (lo + 1) (lo + n + 1)) (λ j X. blended old (pitchOf p) t0 t1 t2 Key j (X - 1)) old new (to - 1) (pitchOf p) m) (sym sole)
+      (plane-more p t0 t1 t2 to size lo n 0 T0 T1 T2 TO clear room (omega arith) at-taps old old Key (planes-none _ _ old (to - 1) (pitchOf p)) _ new b
+      (λ x m. rw (key-at x, place x) (omega arith)))
 
   -- a higher plane
   pub blending-next :

@@ -11,12 +11,12 @@ use Rattle.plans.specs.declared.plan.Plan.{Plan}
 use Rattle.plans.specs.declared.plan.Row.{Row}
 use Rattle.plans.proofs.PlanSizes.{rows-few}
 
-pub block-small : (n a : ℕ) → n ≤ 9 → a ≤ 1024 → n * (a + 10) ≤ 9306
-block-small n a hn ha = mul-le-mul {n₁ = n} {m₁ = a + 10} {n₂ = 9} {m₂ = 1034} hn (omega arith)
+pub block-small : (n a : ℕ) → n ≤ 9 → a ≤ 1024 → n * (a + 16) ≤ 9360
+block-small n a hn ha = mul-le-mul {n₁ = n} {m₁ = a + 16} {n₂ = 9} {m₂ = 1040} hn (omega arith)
 
-pub blocks-small : (more n a : ℕ) → more < 65536 → n ≤ 9 → a ≤ 1024 → more * (n * (a + 10)) ≤ 609868710
+pub blocks-small : (more n a : ℕ) → more < 65536 → n ≤ 9 → a ≤ 1024 → more * (n * (a + 16)) ≤ 613407600
 blocks-small more n a hm hn ha =
-    mul-le-mul {n₁ = more} {m₁ = n * (a + 10)} {n₂ = 65535} {m₂ = 9306} (omega arith) (block-small n a hn ha)
+    mul-le-mul {n₁ = more} {m₁ = n * (a + 16)} {n₂ = 65535} {m₂ = 9360} (omega arith) (block-small n a hn ha)
 
 pub row-small : (n a : ℕ) → n ≤ 9 → a ≤ 1024 → n * a ≤ 9216
 row-small n a hn ha = mul-le-mul {n₁ = n} {m₁ = a} {n₂ = 9} {m₂ = 1024} hn ha

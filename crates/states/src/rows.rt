@@ -10,10 +10,12 @@ ghost use Rattle.theory.specs.BestWalks.{alone};
 use crate::runs::Taps;
 use crate::runs::blend_first;
 use crate::runs::blend_next;
+use crate::runs::blend_sole;
 use crate::runs::copy_run;
 use crate::runs::fill_run;
 use crate::runs::fold_run;
 use crate::runs::raise_run;
+use plans::MARGIN;
 use plans::Plan;
 use plans::Row;
 
@@ -29,7 +31,7 @@ fn guard(held: &mut [u16], slot: usize, plan: Plan, row: Row)
         held[at + row.lo] = 0;
         held[at + row.hi + 1] = 0;
         j += 1;
-        at += plan.across + 10;
+        at += plan.across + MARGIN;
     }
 }
 
@@ -45,7 +47,7 @@ pub(crate) fn load_row(held: &mut [u16], slot: usize, work: &[u16], at: usize, p
     while j < plan.planes {
         copy_run(held, to, work, from, row.hi - row.lo);
         j += 1;
-        to += plan.across + 10;
+        to += plan.across + MARGIN;
         from += plan.across;
     }
     guard(held, slot, plan, row);
@@ -71,7 +73,7 @@ pub(crate) fn store_row(
         copy_run(work, to, held, from, row.hi - row.lo);
         j += 1;
         to += plan.across;
-        from += plan.across + 10;
+        from += plan.across + MARGIN;
     }
 }
 
@@ -95,11 +97,11 @@ fn start_run(
     let start = at + first;
     copy_run(held, slot + 1 + first, keys, start, n);
     let mut j = 1;
-    let mut to = slot + 1 + first + (plan.across + 10);
+    let mut to = slot + 1 + first + (plan.across + MARGIN);
     while j < plan.planes {
         raise_run(held, to, keys, start, n, plan.slack);
         j += 1;
-        to += plan.across + 10;
+        to += plan.across + MARGIN;
     }
 }
 
@@ -109,7 +111,7 @@ pub(crate) fn start_row(held: &mut [u16], slot: usize, keys: &[u16], plan: Plan,
     ensures { λ _. ⌜ RowHeld (now (held .exit)) slot (plan .planes) (pitchOf plan) (row .lo) (row .hi) (λ (j x : ℕ). gate (startsAt plan m x) (alone (plan .slack) (getD (now (keys .entry)) (row .at + x) 0) j)) ⌝ }
     ensures { λ _. ⌜ Apart (now (held .entry)) (now (held .exit)) slot (slot + blockOf plan) ⌝ }
 {
-    fill_run(held, slot, plan.planes * (plan.across + 10), 0);
+    fill_run(held, slot, plan.planes * (plan.across + MARGIN), 0);
     if plan.lone {
         if m > 0 {
             return;
@@ -168,10 +170,23 @@ pub(crate) fn blend_row(
     blend_first(held, below, keys, at, run, n);
     let mut j = 1;
     while j < plan.planes {
-        run = higher(run, plan.across + 10);
+        run = higher(run, plan.across + MARGIN);
         blend_next(held, below, keys, at, run, n);
         j += 1;
     }
+    guard(held, taps.to - 1, plan, row);
+}
+
+// The same where there is one plane: nothing is kept for another.
+pub(crate) fn blend_sole_row(held: &mut [u16], keys: &[u16], plan: Plan, row: Row, taps: Taps)
+    requires { ⌜ (RowOf plan row) × (TapsOf plan (taps .t0) (taps .t1) (taps .t2) (taps .to) (length (now held))) ⌝ }
+    requires { ⌜ (row .at + plan .across ≤ length (now keys)) × (plan .planes ≡ 1) × (length (now held) ≤ 40000) ⌝ }
+    ensures { λ _. ⌜ RowHeld (now (held .exit)) (taps .to - 1) (plan .planes) (pitchOf plan) (row .lo) (row .hi) (blended (now (held .entry)) (pitchOf plan) (taps .t0) (taps .t1) (taps .t2) (λ (x : ℕ). getD (now (keys .entry)) (row .at + x) 0)) ⌝ }
+    ensures { λ _. ⌜ Apart (now (held .entry)) (now (held .exit)) (taps .to - 1) (taps .to - 1 + blockOf plan) ⌝ }
+{
+    let at = row.at + row.lo;
+    let n = run_of(row, keys.len() - at);
+    blend_sole(held, keys, at, higher(taps, row.lo), n);
     guard(held, taps.to - 1, plan, row);
 }
 
@@ -197,6 +212,6 @@ pub(crate) fn join_row(
     while from > at {
         from -= plan.across;
         fold_run(best, to, held, h, work, from + row.lo, n);
-        h += plan.across + 10;
+        h += plan.across + MARGIN;
     }
 }

@@ -12,12 +12,14 @@ ghost use Rattle.plans.specs.Plans.{Sound, rowsIn, rowLo, rowHi, rowAt, stateSi
 ghost use Rattle.states.specs.States.{Advanced, Joined, furtherIn};
 ghost use Rattle.states.specs.Holding.{Slotted, Halves, MadeRow, NextRows, LastRow, tapOf};
 use crate::rows::blend_row;
+use crate::rows::blend_sole_row;
 use crate::rows::join_row;
 use crate::rows::load_row;
 use crate::rows::start_row;
 use crate::rows::store_row;
 use crate::runs::Taps;
 use crate::runs::fill_run;
+use plans::MARGIN;
 use plans::Plan;
 use plans::Row;
 use plans::rows_in;
@@ -67,9 +69,9 @@ fn row_in(plan: Plan, e: usize, m: usize) -> Row
 // How much the rows of one number take, where `more` states are made at once with the first.
 pub(crate) fn half_with(plan: Plan, more: usize) -> usize
     requires { ⌜ (plan .planes ≤ 9) × (plan .across ≤ 1024) × (more < 65536) ⌝ }
-    ensures { λ r. ⌜ (r ≡ halfWith plan more) × (r ≤ 609887322) ⌝ }
+    ensures { λ r. ⌜ (r ≡ halfWith plan more) × (r ≤ 613426320) ⌝ }
 {
-    let block = plan.planes * (plan.across + 10);
+    let block = plan.planes * (plan.across + MARGIN);
     let others = more * block;
     if plan.linked {
         block + block + others
@@ -96,7 +98,7 @@ fn tap(plan: Plan, slots: Slots, y: usize, x: usize) -> usize
     if y == 0 {
         return slots.was + x;
     }
-    let block = plan.planes * (plan.across + 10);
+    let block = plan.planes * (plan.across + MARGIN);
     if y == 1 {
         return slots.was + block + x;
     }
@@ -122,7 +124,7 @@ fn hold_last(
         return;
     }
     if e == 0 {
-        fill_run(held, slot, plan.planes * (plan.across + 10), 0);
+        fill_run(held, slot, plan.planes * (plan.across + MARGIN), 0);
     } else {
         let row = row_in(plan, e - 1, m);
         let at = from + m * (plan.planes * plan.across);
@@ -157,6 +159,10 @@ fn make_row(
         t2: tap(plan, slots, plan.reach.y2, plan.reach.x2),
         to: slots.now + 1,
     };
+    if plan.planes == 1 {
+        blend_sole_row(held, work, plan, row, taps);
+        return;
+    }
     blend_row(held, below, work, plan, row, taps);
 }
 
@@ -177,7 +183,7 @@ fn next_rows(
     ensures { λ _. ⌜ NextRows plan (states .first) (states .past) m (now (work .entry)) slots (now (held .entry)) (now (held .exit)) ⌝ }
     ensures { λ _. ⌜ length (now (below .exit)) ≡ length (now (below .entry)) ⌝ }
 {
-    let block = plan.planes * (plan.across + 10);
+    let block = plan.planes * (plan.across + MARGIN);
     let mut e = states.first;
     let mut at = (states.past - e) * block;
     while e < states.past {
@@ -209,7 +215,7 @@ pub(crate) fn make_states(
     let first = states.first;
     let e = states.past - 1;
     let half = half_with(plan, e - first);
-    let last = half - plan.planes * (plan.across + 10);
+    let last = half - plan.planes * (plan.across + MARGIN);
     fill_run(held, 0, half, 0);
     let mut slots = Slots { was: 0, now: half };
     let rows = rows_in(plan, e);
@@ -254,7 +260,7 @@ pub(crate) fn make_joined(
     let first = states.first;
     let e = states.past - 1;
     let half = half_with(plan, e - first);
-    let last = half - plan.planes * (plan.across + 10);
+    let last = half - plan.planes * (plan.across + MARGIN);
     fill_run(held, 0, half, 0);
     let mut slots = Slots { was: 0, now: half };
     let size = plan.planes * plan.across;

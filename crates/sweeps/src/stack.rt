@@ -11,6 +11,7 @@ ghost use Rattle.plans.specs.Plans.{stateSize, keysSize, halfOf, halfWith};
 ghost use Rattle.plans.specs.Forms.{wellFormed};
 ghost use Rattle.sweeps.specs.Stacks.{StackFits, RunOn, Pushed, Fetched, lastMark};
 use crate::taken::advance;
+use plans::MARGIN;
 use plans::Plan;
 use states::Stretch;
 
@@ -137,7 +138,7 @@ pub(crate) fn at_once(plan: Plan, held: usize) -> usize
     if !plan.linked {
         return 1;
     }
-    lesser(held / 2 / (plan.planes * (plan.across + 10)) - 1, 6)
+    lesser(held / 2 / (plan.planes * (plan.across + MARGIN)) - 1, 6)
 }
 
 // The states from number `first` below `past`, as many at once as can be, the first of them from the one at

@@ -18,6 +18,11 @@ use crate::taken::advance_joined;
 use plans::Plan;
 use states::Stretch;
 
+// So many numbers lie before the held rows, and one more before what is kept of a plane. Any number up to 7 is
+// right; it is chosen so that in the built library pixel 0 of a row, which has a zero before it, begins a vector
+// of eight, and what is kept too.
+const LEAD: usize = 3;
+
 // How many states find room, but for one, up to 64.
 fn states_fitting(room: usize, size: usize) -> usize
     requires { ⌜ (1 ≤ size) × (2 * size ≤ room) ⌝ }
@@ -139,10 +144,18 @@ pub(crate) fn sweep_held(best: &mut [u16], work: &mut [u16], plan: Plan, other: 
     requires { ⌜ (wellFormed plan ≡ true) × (wellFormed other ≡ true) ⌝ }
     requires { ⌜ Opposite plan other states ⌝ }
     requires { ⌜ (keysSize plan + stateSize plan ≤ length (now work)) × (plan .linked ≡ true → keysSize plan + 2 * stateSize plan ≤ length (now work)) × (keysSize plan ≤ length (now best)) ⌝ }
-    requires { ⌜ (halfOf plan + halfOf plan ≤ 23940) × (plan .across ≤ 1024) ⌝ }
+    requires { ⌜ (halfOf plan + halfOf plan ≤ 24480) × (plan .across ≤ 1024) ⌝ }
     ensures { λ _. ⌜ Swept plan other states (now (work .entry)) (now (best .entry)) (now (best .exit)) ⌝ }
 {
-    let mut held = [0u16; 23940];
-    let mut below = [0u16; 1032];
-    sweep(best, work, &mut held, &mut below, plan, other, states);
+    let mut held = [0u16; 24496];
+    let mut below = [0u16; 1040];
+    sweep(
+        best,
+        work,
+        &mut held[LEAD..],
+        &mut below[LEAD + 1..],
+        plan,
+        other,
+        states,
+    );
 }

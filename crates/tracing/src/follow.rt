@@ -152,7 +152,7 @@ fn follow_counted(
     ensures { λ _. ⌜ lowAlong backwards (keyOf scan (now (plate .entry))) (walk .key) (now (path .exit)) (walk .start) (walk .steps + 1) ≤ walk .gaps ⌝ }
     ensures { λ _. ⌜ EndsAt scan (now (plate .entry)) (walk .key) (getD (now (path .exit)) (indexAfter backwards (walk .start) (walk .steps)) 0) ⌝ }
 {
-    let mut held = [0u16; 18612];
+    let mut held = [0u16; 18720];
     let mut below = [0u16; 1032];
     let mut marks = [0usize; 64];
     let start = walk.start;

@@ -31,7 +31,7 @@ pub(crate) fn note_side(
     ensures { λ _. ⌜ Apart (now (notes .entry)) (now (notes .exit)) to (to + (scan .steps + 1) * (scan .setting .gaps + 1)) ⌝ }
     ensures { λ _. ⌜ Levels (now (plate .entry)) ⌝ }
 {
-    let mut held = [0u16; 18612];
+    let mut held = [0u16; 18720];
     let mut below = [0u16; 1032];
     let sight = sight_of(scan, backwards, x);
     let plan = sight.plan;

@@ -1,4 +1,4 @@
--- `half_with` meets its contract: nine planes of at most 1034 numbers, as often as there are rows.
+-- `half_with` meets its contract: nine planes of at most 1040 numbers, as often as there are rows.
 use Prim.Native.Nat.{_+_, _*_, _≤_}
 use native.Mathlib.Omega.{arith}
 use borrow.Author.Needs.{needs}
@@ -7,7 +7,7 @@ use Rattle.states.proofs.state.half_with.Statement.{statement}
 use Rattle.states.proofs.state.half_with.Tie as tie
 
 small : (s : tie.Start) → let a = s .args in
-    (a .plan .planes * (a .plan .across + 10) ≤ 9306) × (a .more * (a .plan .planes * (a .plan .across + 10)) ≤ 609868710)
+    (a .plan .planes * (a .plan .across + 16) ≤ 9360) × (a .more * (a .plan .planes * (a .plan .across + 16)) ≤ 613407600)
 small s = (block-small _ _ (s .pre .0) (s .pre .1), blocks-small _ _ _ (s .pre .2) (s .pre .0) (s .pre .1))
 
 add-block : tie.Need-add-block

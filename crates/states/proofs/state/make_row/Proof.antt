@@ -1,11 +1,16 @@
 -- `make_row` meets its contract: the new row comes to its place, the walks of no steps, or what the three steps lead on, which read what the last
 -- number's half and the last state's row m hold.
-use Prim.Native.Nat.{ℕ, _+_, _≤_, _<_}
-use mathlib.Core.Path.{refl, sym, _∙_}
+use Prim.Native.Nat.{ℕ, _+_, _-_, _≤_, _<_}
+use mathlib.Core.Path.{_≡_, refl, sym, _∙_}
+use mathlib.Core.Bool.{false}
+use mathlib.Core.List.{List}
 use native.Mathlib.Omega.{arith}
 use borrow.Author.Needs.{needs}
-use lib.ListN.{length}
-use Rattle.states.specs.Rows.{RowOf}
+use lib.ListN.{length, getD}
+use Rattle.plans.specs.Plans.{starts, pitchOf, blockOf}
+use Rattle.states.specs.Runs.{Apart}
+use Rattle.states.specs.Rows.{RowOf, RowHeld, TapsOf, blended}
+use Rattle.states.specs.Holding.{MadeRow}
 use Rattle.states.proofs.SizeLaws.{half-room, row-fits, row-keyed}
 use Rattle.states.proofs.HoldingLaws.{TapsAt, slots-within, taps-fit, made-started, made-blended}
 use Rattle.states.proofs.state.make_row.Statement.{statement}
@@ -80,31 +85,57 @@ taps : (t : tie.After-tap3) → let a = start (t .before .before .before .before
 taps t =
     record { first = t .before .before .tap .ensures; second = t .before .tap2 .ensures; third = t .tap3 .ensures }
 
-blend-row-requires : tie.Need-blend-row-requires
-blend-row-requires c κs =
-    let r = c .before .before .before .before .before .before .before .before in
+-- what both ways of blending ask for
+blends : (t : tie.After-tap3) → let s = start (t .before .before .before .before .before) in let a = s .args in
+    (RowOf (a .plan) (t .before .before .before .before .before .row-in .result)) × (TapsOf (a .plan) (t .before .before .tap .result) (t .before .tap2 .result) (t .tap3 .result) (a .slots .now + 1) (length (a .held .now)))
+blends t =
+    let s = start (t .before .before .before .before .before) in
+    (row-told (t .before .before .before .before .before), taps-fit _ _ _ _ _ _ _ _ (s .pre .0) (s .pre .1 .1 .0) (s .pre .1 .0 .0) (s .pre .1 .0 .1) (taps t))
+
+-- and what a blended row is
+blended-row : (t : tie.After-tap3) (new : List ℕ) → let r = t .before .before .before .before .before in let a = start r .args in starts (a .plan) (a .e) (a .m) ≡ false →
+    RowHeld new (a .slots .now + 1 - 1) (a .plan .planes) (pitchOf (a .plan)) (r .row-in .result .lo) (r .row-in .result .hi)
+    (blended (a .held .now) (pitchOf (a .plan)) (t .before .before .tap .result) (t .before .tap2 .result) (t .tap3 .result)
+    (λ (x : ℕ). getD (a .work .now) (r .row-in .result .at + x) 0)) →
+    Apart (a .held .now) new (a .slots .now + 1 - 1) (a .slots .now + 1 - 1 + blockOf (a .plan)) →
+    MadeRow (a .plan) (a .e) (a .m) (a .work .now) (a .slots) (a .held .now) new
+blended-row t new later row apart =
+    let r = t .before .before .before .before .before in
     let s = start r in
-    let slotted = s .pre .1 .1 .0 in
-    let fit = taps-fit _ _ _ _ _ _ _ _ (s .pre .0) slotted (s .pre .1 .0 .0) (s .pre .1 .0 .1) (taps (c .before .before .before)) in
-    ((row-told r, fit), (keyed r, s .pre .1 .1 .1, slotted .small))
+    let e = r .row-in .ensures in
+    made-blended _ _ _ _ _ _ _ (s .pre .0) (s .pre .1 .1 .0) (s .pre .1 .0 .0) (s .pre .1 .0 .1) later
+    _ _ _ _ _ _ _ (e .0) (e .1) (e .2) (taps t) (omega arith) row apart
+
+blend-sole-row-requires : tie.Need-blend-sole-row-requires
+blend-sole-row-requires c κs =
+    let r = c .before .before .before .before .before .before .before .before .before in
+    (blends (c .before .before .before .before), (keyed r, c .before .if2 .taken, start r .pre .1 .1 .0 .small))
 
 same-length-2 : tie.Need-same-length-2
 same-length-2 c = search needs
 
+returns-2 : tie.Need-returns-2
+returns-2 c =
+    let b = c .before .before .blend-sole-row .ensures in
+    let later = sym (c .before .before .before .before .before .before .before .before .before .before .before .starts-at .ensures) ∙ c .before .before .before .before .before .before .before .before .before .before .if1 .left in
+    (blended-row (c .before .before .before .before .before .before .before) _ later (b .0) (b .1), refl)
+
+blend-row-requires : tie.Need-blend-row-requires
+blend-row-requires c κs =
+    let r = c .before .before .before .before .before .before .before .before .before .before in
+    (blends (c .before .before .before .before .before), (keyed r, start r .pre .1 .1 .1, start r .pre .1 .1 .0 .small))
+
 same-length-3 : tie.Need-same-length-3
 same-length-3 c = search needs
 
-returns-2 : tie.Need-returns-2
-returns-2 c =
-    let r = c .before .before .before .before .before .before .before .before .before .before .before .before .before in
-    let s = start r in
-    let e = r .row-in .ensures in
+same-length-4 : tie.Need-same-length-4
+same-length-4 c = search needs
+
+returns-3 : tie.Need-returns-3
+returns-3 c =
     let b = c .before .before .before .before .blend-row in
-    let later = sym (c .before .before .before .before .before .before .before .before .before .before .before .before .starts-at .ensures) ∙ c .before .before .before .before .before .before .before .before .before .before .before .if1 .left in (
-      made-blended _ _ _ _ _ _ _ (s .pre .0) (s .pre .1 .1 .0) (s .pre .1 .0 .0) (s .pre .1 .0 .1) later
-          _ _ _ _ _ _ _ (e .0) (e .1) (e .2) (taps (c .before .before .before .before .before .before .before .before)) (omega arith) (b .ensures .0) (b .ensures .1),
-      b .kept .1 .0,
-    )
+    let later = sym (c .before .before .before .before .before .before .before .before .before .before .before .before .before .before .starts-at .ensures) ∙ c .before .before .before .before .before .before .before .before .before .before .before .before .before .if1 .left in
+    (blended-row (c .before .before .before .before .before .before .before .before .before .before) _ later (b .ensures .0) (b .ensures .1), b .kept .1 .0)
 
 pub make-row-spec : {M : Type 1} → statement M
 make-row-spec =
@@ -119,7 +150,10 @@ make-row-spec =
     tap-requires-2
     tap-requires-3
     add-t17
-    blend-row-requires
+    blend-sole-row-requires
     same-length-2
+    returns-2
+    blend-row-requires
     same-length-3
-    returns-2)
+    same-length-4
+    returns-3)

@@ -7,7 +7,7 @@ use Rattle.states.proofs.HoldingLaws.{tap-own, tap-before, tap-beside}
 use Rattle.states.proofs.state.tap.Statement.{statement}
 use Rattle.states.proofs.state.tap.Tie as tie
 
-block : (s : tie.Start) → let p = s .args .plan in p .planes * (p .across + 10) ≤ 9306
+block : (s : tie.Start) → let p = s .args .plan in p .planes * (p .across + 16) ≤ 9360
 block s = block-small _ _ (s .pre .0) (s .pre .1)
 
 add-result : tie.Need-add-result

@@ -12,10 +12,10 @@ use Rattle.sweeps.proofs.stack.at_once.Statement.{statement}
 use Rattle.sweeps.proofs.stack.at_once.Tie as tie
 
 -- a row has room, and there is room for two of them
-block : (s : tie.Start) → (1 ≤ blockOf (s .args .plan)) × (blockOf (s .args .plan) ≤ 9306)
+block : (s : tie.Start) → (1 ≤ blockOf (s .args .plan)) × (blockOf (s .args .plan) ≤ 9360)
 block s =
     let sound = well-formed-sound _ (s .pre .0) in
-    let some : 1 * 1 ≤ s .args .plan .planes * (s .args .plan .across + 10) = mul-le-mul {n₁ = 1} {m₁ = 1} {n₂ = s .args .plan .planes} {m₂ = s .args .plan .across + 10} (sound .some-planes) (omega arith) in
+    let some : 1 * 1 ≤ s .args .plan .planes * (s .args .plan .across + 16) = mul-le-mul {n₁ = 1} {m₁ = 1} {n₂ = s .args .plan .planes} {m₂ = s .args .plan .across + 16} (sound .some-planes) (omega arith) in
     (omega arith, block-small _ _ (sound .few-planes) (sound .few-across))
 
 two : (e : tie.Else1) → let a = e .before .before .args in 2 ≤ a .held / 2 / blockOf (a .plan)

@@ -49,7 +49,7 @@ few-wanted c =
           (a .walk .gaps) (s .pre .0 .1) (s .pre .1 .0 .2) (s .pre .1 .0 .3) (s .pre .1 .1 .1 .1 .1),
     )
 
-held-fit : (p : Plan) (held below : ℕ) → halfOf p + halfOf p ≤ 18612 → p .across + 7 ≤ 1032 → held ≡ 18612 → below ≡ 1032 → HeldFit p held below
+held-fit : (p : Plan) (held below : ℕ) → halfOf p + halfOf p ≤ 18720 → p .across + 7 ≤ 1032 → held ≡ 18720 → below ≡ 1032 → HeldFit p held below
 held-fit p held below h k eh eb = record { halves = omega arith; few = omega arith; row = omega arith }
 
 mul-sight-of : tie.Need-mul-sight-of

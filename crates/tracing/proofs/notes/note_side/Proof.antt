@@ -13,7 +13,7 @@ abbrev Inv-loop : tie.InvT-loop
 Inv-loop notes₀ to work₀ plate scan backwards x held₀ below₀ sight plan base e₀ notes work held below e =
     (e ≤ sight .states)
     × (length work ≡ length work₀)
-    × (length held ≡ 18612)
+    × (length held ≡ 18720)
     × (length below ≡ 1032)
     × (length notes ≡ length notes₀)
     × SideNoted plan (scan .slack) (sight .states) to base e work₀ work notes₀ notes
