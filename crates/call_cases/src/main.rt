@@ -3,9 +3,9 @@
 // 02, N1, one case for each refusal number of section 5 that these calls have and for N5's, what the walk
 // of document 02, N4 holds after each pixel, and the directions' steps of section 2. Each case prints its name and what
 // came back; the file stdout beside src/ has what the papers say.
+use correction::FirstFault;
 use libc::STDOUT_FILENO;
 use plate::Answer;
-use plate::FirstFault;
 use plate::Made;
 use plate::Moved;
 use plate::Setting;
@@ -59,7 +59,10 @@ fn correct_pixel(name: &[u8], reading: u16, word: u16) {
     let readings = [reading];
     let words = [word];
     let mut result = [0i16; 1];
-    print_corrected(name, plate::correct(1, 1, &readings, &words, &mut result));
+    print_corrected(
+        name,
+        correction::correct(1, 1, &readings, &words, &mut result),
+    );
 }
 
 // A pixel with the reading 0.
@@ -104,15 +107,15 @@ fn size_refusals() {
     let mut result = [0i16; 6];
     print_corrected(
         b"width 0",
-        plate::correct(0, 6, &readings, &words, &mut result),
+        correction::correct(0, 6, &readings, &words, &mut result),
     );
     print_corrected(
         b"height 1025",
-        plate::correct(1, 1025, &readings, &words, &mut result),
+        correction::correct(1, 1025, &readings, &words, &mut result),
     );
     print_corrected(
         b"1024 x 65",
-        plate::correct(1024, 65, &readings, &words, &mut result),
+        correction::correct(1024, 65, &readings, &words, &mut result),
     );
 }
 
@@ -123,15 +126,15 @@ fn length_refusals() {
     let mut short = [0i16; 5];
     print_corrected(
         b"readings short",
-        plate::correct(3, 2, &five, &six, &mut result),
+        correction::correct(3, 2, &five, &six, &mut result),
     );
     print_corrected(
         b"words short",
-        plate::correct(3, 2, &six, &five, &mut result),
+        correction::correct(3, 2, &six, &five, &mut result),
     );
     print_corrected(
         b"result short",
-        plate::correct(3, 2, &six, &six, &mut short),
+        correction::correct(3, 2, &six, &six, &mut short),
     );
 }
 
@@ -143,11 +146,11 @@ fn value_refusals() {
     let mut result = [7i16; 6];
     print_corrected(
         b"reading 16384 fourth",
-        plate::correct(3, 2, &readings, &zeros, &mut result),
+        correction::correct(3, 2, &readings, &zeros, &mut result),
     );
     print_corrected(
         b"word 49151 third",
-        plate::correct(3, 2, &good, &words, &mut result),
+        correction::correct(3, 2, &good, &words, &mut result),
     );
     if result[0] == 7 {
         io::write_all(STDOUT_FILENO, b"the result is as it was\n");
@@ -161,7 +164,7 @@ fn judged_in_order() {
     let mut result = [0i16; 4];
     print_corrected(
         b"late reading, early word",
-        plate::correct(2, 2, &readings, &words, &mut result),
+        correction::correct(2, 2, &readings, &words, &mut result),
     );
 }
 
@@ -176,7 +179,7 @@ fn print_first(first: FirstFault) {
 
 // What the walk over these pixels holds: "NAME: " and the first bad reading and correction, or "none".
 fn print_faults(name: &[u8], readings: &[u16], words: &[u16]) {
-    let faults = plate::find_faults(readings, words);
+    let faults = correction::find_faults(readings, words);
     let reading = faults.reading;
     let correction = faults.correction;
     io::write_all(STDOUT_FILENO, name);
@@ -202,7 +205,7 @@ fn walk_to_late_correction() {
     print_faults(b"1 reading alone", &readings[..1], &words);
     print_corrected(
         b"the four",
-        plate::correct(4, 1, &readings, &words, &mut result),
+        correction::correct(4, 1, &readings, &words, &mut result),
     );
 }
 
@@ -217,7 +220,7 @@ fn walk_to_late_reading() {
     print_faults(b"after 3 of 3", &readings, &words);
     print_corrected(
         b"the three",
-        plate::correct(3, 1, &readings, &words, &mut result),
+        correction::correct(3, 1, &readings, &words, &mut result),
     );
 }
 
@@ -228,7 +231,7 @@ fn walk_without_bad_reading() {
     print_faults(b"after 2 of 2", &readings, &words);
     print_corrected(
         b"the two",
-        plate::correct(2, 1, &readings, &words, &mut result),
+        correction::correct(2, 1, &readings, &words, &mut result),
     );
 }
 

@@ -72,7 +72,7 @@ pub extern "C" fn diilvak_correct(
     ensures { λ r. ⌜ now (result .exit) ≡ lentAfter (correctionVerdict width height (now (readings .entry)) (now (words .entry)) (size (now (result .entry)))) (correctedPlate (now (readings .entry)) (now (words .entry))) (now (result .entry)) ⌝ }
     ensures { λ r. ⌜ now (place .exit) ≡ placeOf (correctionVerdict width height (now (readings .entry)) (now (words .entry)) (size (now (result .entry)))) ⌝ }
 {
-    let answer = plate::correct(width, height, readings, words, result);
+    let answer = correction::correct(width, height, readings, words, result);
     tell(answer, place)
 }
 

@@ -1,8 +1,8 @@
 // The lamp meter's figures as a correction word (document 02, N6).
 //
 // The add-on stands by itself: of the other crates it uses `plate` alone, for the word, the refusal and the
-// correction that takes the word, and none of them uses it. Means and difference are taken in f32, and each is
-// proved to be exact; the definitions do the same sum in whole eighths over the integers.
+// definition of the correction that takes the word, and none of them uses it. Means and difference are taken in
+// f32, and each is proved to be exact; the definitions do the same sum in whole eighths over the integers.
 ghost use mathlib.Core.Path.{_≡_};
 ghost use Rattle.meter.specs.Corrections.{answeredBy, meterVerdict};
 

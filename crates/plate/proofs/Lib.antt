@@ -8,6 +8,3 @@ pub mod Verdicts
 pub mod Calls
 pub mod WalkerSteps
 pub mod Within
-pub mod CorrectedLevels
-pub mod FirstFaults
-pub mod CorrectionVerdicts

@@ -5,7 +5,6 @@ pub mod Paths
 pub mod Opening
 pub mod RefusalNumbers
 pub mod Refusals
-pub mod Faults
 pub mod Sizes
 pub mod Answers
 pub mod Calls

@@ -2,13 +2,10 @@
 //
 // specs/ holds document 01's definitions, in its order: limits, levels, directions, paths, opening and
 // closing, the refusal table. The functions here are the leaves: the step table and the walker, the
-// setting, the arithmetic of levels, the checks that calls have in common, the faults of readings and
-// corrections, and the correction of a plate of readings. Each answers on every input; none that is public
-// has a `requires`.
+// setting, the arithmetic of levels, and the checks that calls have in common. Each answers on every input;
+// none that is public has a `requires`.
 mod answer;
 mod call;
-mod correction;
-mod faults;
 mod level;
 pub mod refusal;
 mod setting;
@@ -22,13 +19,6 @@ pub use answer::Traced;
 pub use call::Fills;
 pub use call::Lent;
 pub use call::judge;
-pub use correction::correct;
-pub use faults::Faults;
-pub use faults::FirstFault;
-pub use faults::MAX_CORRECTION;
-pub use faults::MAX_READING;
-pub use faults::MIN_CORRECTION;
-pub use faults::find_faults;
 pub use level::key_of;
 pub use level::level_of;
 pub use level::mirrored;

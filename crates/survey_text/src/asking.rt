@@ -46,7 +46,7 @@ fn fill(head: Header, readings: &[u16], words: &[u16], levels: &mut [i16]) -> Re
         return verdict;
     };
     let n = head.width * head.height;
-    plate::correct(head.width, head.height, readings, words, &mut levels[..n]);
+    correction::correct(head.width, head.height, readings, words, &mut levels[..n]);
     verdict
 }
 
@@ -58,7 +58,7 @@ fn judge(head: Header, readings: &[u16], words: &[u16]) -> Reading
 {
     let n = head.width * head.height;
     let mut tried = [0i16; MAX_PLATE];
-    let done = plate::correct(head.width, head.height, readings, words, &mut tried[..n]);
+    let done = correction::correct(head.width, head.height, readings, words, &mut tried[..n]);
     if let Answer::Refused { number, place } = done {
         return Reading::Refused {
             number: number,

@@ -15,8 +15,8 @@ use Rattle.basics.proofs.Lists.{none-passes, zipWith-length, zipWith-at}
 use Rattle.plate.specs.Levels.{corrected, correctedPlate}
 use Rattle.plate.specs.Refusals.{Verdict, Verdict.accepted, Check, Clear, badReading, badCorrection, sizeCheck, inputCheck, resultCheck, readingsCheck, correctionsCheck, correctionVerdict, settingVerdict}
 use Rattle.plate.proofs.Verdicts.{accepted-clear}
-use Rattle.plate.proofs.CorrectedLevels.{corrected-fits}
 use Rattle.plate.specs.declared.setting.Setting.{Setting}
+use Rattle.correction.proofs.CorrectedLevels.{corrected-fits}
 use Rattle.survey_text.specs.Reading.{PlateText, reading}
 use Rattle.survey_text.specs.Survey.{Survey, prepared, requested}
 use Rattle.survey_text.proofs.Verdicts.{accepted-same, steps-accepted}

@@ -48,7 +48,7 @@ fn refusals_of_the_code() -> Numbers {
 fn limits() {
     let code = constants(&[
         "crates/plate/src/size.rt",
-        "crates/plate/src/faults.rt",
+        "crates/correction/src/faults.rt",
         "crates/plate/src/setting.rt",
         "crates/book/src/lib.rt",
     ]);

@@ -3,9 +3,8 @@
 ghost use mathlib.Core.Path.{_≡_};
 ghost use Prim.Native.Nat.{min};
 ghost use lib.ListN.{length};
 ghost use Rattle.plate.specs.Refusals.{badReading, badCorrection};
-ghost use Rattle.plate.specs.Faults.{faultsAfter, orAt};
-use crate::level;
+ghost use Rattle.correction.specs.Faults.{faultsAfter, orAt};
 
 // The largest reading, and the least and the largest correction (document 02, N1).
 pub const MAX_READING: u16 = 16383;
@@ -35,7 +34,7 @@ fn is_bad_reading(reading: u16) -> bool
 fn is_bad_correction(word: u16) -> bool
     ensures { λ r. ⌜ r ≡ badCorrection word ⌝ }
 {
-    let correction = level::signed_correction(word);
+    let correction = plate::signed_correction(word);
     if correction < MIN_CORRECTION {
         return true;
     }

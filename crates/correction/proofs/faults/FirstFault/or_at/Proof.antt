@@ -1,7 +1,7 @@
 -- `or_at` goes by the cases of `orAt`.
 use borrow.Author.Needs.{needs}
-use Rattle.plate.proofs.faults.FirstFault.or_at.Statement.{statement}
-use Rattle.plate.proofs.faults.FirstFault.or_at.Tie as tie
+use Rattle.correction.proofs.faults.FirstFault.or_at.Statement.{statement}
+use Rattle.correction.proofs.faults.FirstFault.or_at.Tie as tie
 
 enum-known-self : tie.Need-enum-known-self
 enum-known-self c = search needs

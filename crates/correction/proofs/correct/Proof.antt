@@ -6,11 +6,11 @@ use native.Mathlib.Omega.{arith}
 use mathlib.Core.Path.{_≡_, refl, sym, _∙_}
 use mathlib.Core.Bool.{false}
 use lib.ListN.{length}
 use Rattle.plate.specs.Refusals.{badSize, judged, correctionVerdict}
 use Rattle.plate.proofs.Sizes.{good-size}
-use Rattle.plate.proofs.CorrectionVerdicts.{FaultsFound, no-bad-reading, no-bad-correction, reading-wins, correction-next, no-fault}
-use Rattle.plate.proofs.correction.correct.Statement.{statement}
-use Rattle.plate.proofs.correction.correct.Tie as tie
+use Rattle.correction.proofs.CorrectionVerdicts.{FaultsFound, no-bad-reading, no-bad-correction, reading-wins, correction-next, no-fault}
+use Rattle.correction.proofs.correct.Statement.{statement}
+use Rattle.correction.proofs.correct.Tie as tie
 
 -- the size is good after the first test
 not-bad : (c : tie.Else1) → badSize (c .before .before .before .before .args .width) (c .before .before .before .before .args .height) ≡ false

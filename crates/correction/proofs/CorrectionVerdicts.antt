@@ -7,12 +7,12 @@ use mathlib.Core.List.{List, [], _∷_}
 use lib.ListN.{length}
 use borrow.Author.Tests.{eq-eqb, lt-ltb, le-ltb}
 use Rattle.basics.specs.Lists.{firstOf}
 use Rattle.plate.specs.Refusals.{Verdict.accepted, Verdict.refused, badSize, badReading, badCorrection, judged, readingsCheck, correctionsCheck, correctionVerdict}
 use Rattle.plate.specs.RefusalNumbers.{refusalReading, refusalCorrection}
-use Rattle.plate.specs.Faults.{firstBad, faultsAfter}
-use Rattle.plate.specs.declared.faults.Faults.{Faults}
-use Rattle.plate.specs.declared.faults.FirstFault.the-variants.{Nowhere, At}
-use Rattle.plate.proofs.FirstFaults.{all-readings, all-corrections, at-first, nowhere-none}
+use Rattle.correction.specs.Faults.{firstBad, faultsAfter}
+use Rattle.correction.specs.declared.faults.Faults.{Faults}
+use Rattle.correction.specs.declared.faults.FirstFault.the-variants.{Nowhere, At}
+use Rattle.correction.proofs.FirstFaults.{all-readings, all-corrections, at-first, nowhere-none}
 
 -- the faults of a plate whose size and lengths are as they have to be
 pub record FaultsFound (W H : ℕ) (readings words : List ℕ) (room : ℕ) (faults : Faults) : Type 0 where

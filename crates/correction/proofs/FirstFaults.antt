@@ -13,10 +13,10 @@ use borrow.Author.Tests.{lt-ltb, le-ltb}
 use Rattle.basics.specs.Lists.{firstOf}
 use Rattle.basics.proofs.Numbers.{le-or-lt}
 use Rattle.basics.proofs.Lists.{found-before, found-after}
 use Rattle.plate.specs.Refusals.{badReading, badCorrection}
-use Rattle.plate.specs.Faults.{firstBad, faultsAfter, orAt}
-use Rattle.plate.specs.declared.faults.Faults.{Faults}
-use Rattle.plate.specs.declared.faults.FirstFault.the-variants.{Nowhere, At}
+use Rattle.correction.specs.Faults.{firstBad, faultsAfter, orAt}
+use Rattle.correction.specs.declared.faults.Faults.{Faults}
+use Rattle.correction.specs.declared.faults.FirstFault.the-variants.{Nowhere, At}
 
 -- ---- a fault of one kind
 

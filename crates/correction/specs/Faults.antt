@@ -6,10 +6,10 @@ use mathlib.Core.List.{List}
 use lib.Dec.{ltb}
 use lib.ListN.{length, take}
 use Rattle.basics.specs.Lists.{firstOf}
 use Rattle.plate.specs.Refusals.{badReading, badCorrection}
-use Rattle.plate.specs.declared.faults.Faults.{Faults}
-use Rattle.plate.specs.declared.faults.FirstFault.{FirstFault}
-use Rattle.plate.specs.declared.faults.FirstFault.the-variants.{Nowhere, At}
+use Rattle.correction.specs.declared.faults.Faults.{Faults}
+use Rattle.correction.specs.declared.faults.FirstFault.{FirstFault}
+use Rattle.correction.specs.declared.faults.FirstFault.the-variants.{Nowhere, At}
 
 -- the place of the first bad number of a list, or that there is none
 unfoldable pub firstBad : (ℕ → Bool) → List ℕ → FirstFault

@@ -10,10 +10,10 @@ use mir.Syntax.{w16}
 use mir.Val.{toZ, ofZ}
 use mir.ValLaws.{toZ-ofZ}
 use Rattle.basics.proofs.Lists.{none-passes, zipWith-length, zipWith-at, filled-more, filled-all}
 use Rattle.plate.specs.Levels.{corrected, correctedPlate}
 use Rattle.plate.specs.Refusals.{badReading, badCorrection}
-use Rattle.plate.proofs.correction.fill.Statement.{statement}
-use Rattle.plate.proofs.correction.fill.Tie as tie
+use Rattle.correction.proofs.fill.fill.Statement.{statement}
+use Rattle.correction.proofs.fill.fill.Tie as tie
 
 abbrev Inv-loop : tie.InvT-loop
 Inv-loop readings words result₀ i₀ result i = (i ≤ length readings) × (length result ≡ length result₀) × (result ≡ take i (correctedPlate readings words) ++ drop i result₀)

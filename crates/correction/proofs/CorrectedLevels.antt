@@ -1,4 +1,4 @@
--- Laws of the correction: a word within the bounds has a small correction, so reading plus correction has 16 bits. The bounds are those of specs/Limits.antt, by name: others need no other proof as long as their sum fits.
+-- Laws of the correction: a word within the bounds has a small correction, so reading plus correction has 16 bits. The bounds are those of plate/specs/Limits.antt, by name: others need no other proof as long as their sum fits.
 use Prim.Native.Nat.{ℕ, _≤_}
 use mathlib.Core.Path.{_≡_}
 use mathlib.Core.Bool.{false}

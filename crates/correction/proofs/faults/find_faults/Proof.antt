@@ -5,10 +5,10 @@ use mathlib.Core.Path.{_≡_, _∙_, ap}
 use mathlib.Core.Logic.{⊎-elim}
 use Prim.Native.Nat.{ℕ, _≤_, _-_}
 use Rattle.basics.proofs.Tests.{or-false-left, or-false-right}
-use Rattle.plate.specs.Faults.{faultsAfter}
-use Rattle.plate.proofs.FirstFaults.{before-any, one-further}
-use Rattle.plate.proofs.faults.find_faults.Statement.{statement}
-use Rattle.plate.proofs.faults.find_faults.Tie as tie
+use Rattle.correction.specs.Faults.{faultsAfter}
+use Rattle.correction.proofs.FirstFaults.{before-any, one-further}
+use Rattle.correction.proofs.faults.find_faults.Statement.{statement}
+use Rattle.correction.proofs.faults.find_faults.Tie as tie
 
 abbrev Inv-loop : tie.InvT-loop
 Inv-loop readings words pixels faults₀ i₀ faults i = (i ≤ pixels) × (faults ≡ faultsAfter i readings words)

@@ -3,11 +3,11 @@ use native.Mathlib.Omega.{arith}
 use mir.Syntax.{w16, w32}
 use mir.ValLaws.{toZ-ofZ, toZ-pos}
 use Rattle.basics.proofs.Integers.{widened}
 use Rattle.plate.specs.Levels.{corrected}
-use Rattle.plate.proofs.CorrectedLevels.{corrected-fits}
+use Rattle.correction.proofs.CorrectedLevels.{corrected-fits}
 use borrow.Author.Needs.{needs}
-use Rattle.plate.proofs.correction.corrected_level.Statement.{statement}
-use Rattle.plate.proofs.correction.corrected_level.Tie as tie
+use Rattle.correction.proofs.fill.corrected_level.Statement.{statement}
+use Rattle.correction.proofs.fill.corrected_level.Tie as tie
 
 cast-result : tie.Need-cast-result
 cast-result c = search needs

@@ -1,0 +1,3 @@
+pub mod CorrectedLevels
+pub mod FirstFaults
+pub mod CorrectionVerdicts
