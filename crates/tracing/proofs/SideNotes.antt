@@ -13,21 +13,22 @@ use Rattle.basics.proofs.Numbers.{le-or-lt, rows-fit}
 use Rattle.theory.proofs.Towards.{towards-best}
 use Rattle.frames.specs.Frames.{placeIn}
 use Rattle.states.specs.Runs.{Between, Apart}
-use Rattle.plans.specs.Plans.{lineAt, stepsAt}
+use Rattle.plans.specs.Plans.{lineAt, stepsAt, keysSize}
+use Rattle.sweeps.proofs.StackLaws.{keys-apart}
 use Rattle.directions.specs.Numbers.{pixelIn}
 use Rattle.directions.proofs.TraceRows.{HasRow}
-use Rattle.tracing.specs.Scans.{Sound, bitOf, keyOf}
+use Rattle.tracing.specs.Scans.{Sound, bitOf, keyOf, KeysLaid}
 use Rattle.tracing.specs.Sights.{Seen, seenAt}
 use Rattle.walks.specs.Noting.{Lifted, stepsPast}
 use Rattle.walks.proofs.Noting.{past-most}
-use Rattle.tracing.specs.Finding.{Noted, cells}
+use Rattle.tracing.specs.Finding.{Noted, NotedSide, cells}
 use Rattle.tracing.specs.declared.scan.Scan.{Scan}
 use Rattle.directions.specs.declared.sight.Sight.{Sight}
 use Rattle.theory.specs.Modes.{Levels}
 use Rattle.tracing.proofs.Modes.{keys-bounded}
-use Rattle.walks.proofs.NotedStates.{FromSide}
+use Rattle.walks.proofs.NotedStates.{FromSide, SideNoted}
 use Rattle.walks.proofs.Endings.{endedBy}
-use Rattle.tracing.proofs.Sighting.{sight-planes, sight-states-short, sight-steps-few, sight-rows}
+use Rattle.tracing.proofs.Sighting.{sight-planes, sight-states-short, sight-steps-few, sight-rows, sight-sound, sight-keys, keys-laid, sight-sequence}
 use Rattle.tracing.proofs.SeenLaws.{sideKeys, toPixel, seen-ended}
 
 -- a number and a smaller one beside its multiple are known by their sum
@@ -125,7 +126,7 @@ module _ (s : Scan) (sound : Sound s) (backwards : Bool) (x : ℕ) (r : Sight) (
         (λ f. inr (from-note l j (getD new (noteOf l j) 0) hj f))
         (d .source (noteOf l j))
 
-    pub side-noted : Noted (s .slack) (cells new to) (s .width) (s .height) (bitOf s) backwards (keyOf s plate) (s .setting .gaps) (s .steps) x
+    side-noted : Noted (s .slack) (cells new to) (s .width) (s .height) (bitOf s) backwards (keyOf s plate) (s .setting .gaps) (s .steps) x
     side-noted =
         record {
           is = λ l j hl hj.
@@ -144,13 +145,29 @@ module _ (s : Scan) (sound : Sound s) (backwards : Bool) (x : ℕ) (r : Sight) (
         let steps = sight-steps-few s sound backwards x r seen (f .state) (f .number .row) (f .state-below) (f .number .row-below) in
         (omega (arith, here), omega (arith, here, few, rows-fit st 1 (s .steps + 1) planes (omega (arith, steps))))
 
-    pub side-apart : Apart old new to (to + (s .steps + 1) * (s .setting .gaps + 1))
+    side-apart : Apart old new to (to + (s .steps + 1) * (s .setting .gaps + 1))
     side-apart =
         record {
           under = λ q h. ⊎-elim (λ e. e ∙ zeros .under q h) (λ f. absurd (omega (arith, noted-within q (getD new q 0) f))) (d .source q);
           over = λ q h. ⊎-elim (λ e. e ∙ zeros .over q h) (λ f. absurd (omega (arith, noted-within q (getD new q 0) f))) (d .source q);
           len = d .len ∙ zeros .len;
         }
+
+  -- all states of the side are noted, and stand behind the keys
+  pub side-notes :
+      (plate : List ℤ) → x < s .width * s .height → (to : ℕ) (work work′ old mid new : List ℕ) → KeysLaid s plate work →
+      Between (λ (q : ℕ). 0) old mid to (to + (s .steps + 1) * (s .setting .gaps + 1)) →
+      SideNoted (r .plan) (s .slack) (r .states) to (keysSize (r .plan)) (r .states) work work′ mid new → NotedSide s backwards plate x to work′ old new
+  side-notes plate on to work work′ old mid new laid zeros d =
+      let keys = sight-keys s sound backwards x r seen plate work laid in
+      let notes = d .is _ _ keys (sight-sequence s sound backwards x r seen plate) .1 in
+      record {
+        noted = side-noted plate (laid .levels) on to old mid new zeros notes;
+        apart = side-apart plate (laid .levels) on to old mid new zeros notes;
+        left =
+            keys-laid s sound backwards x r seen plate work′ (laid .levels)
+            (keys-apart (r .plan) (sight-sound s sound backwards x r seen) work work′ _ _ _ (d .apart) (omega arith) keys);
+      }
 
 -- ---- the notes of both sides
 

@@ -21,7 +21,7 @@ use Rattle.sweeps.specs.Stacks.{KeysAre, Sequence}
 use Rattle.plans.specs.declared.plan.Plan.{Plan}
 use Rattle.directions.specs.Plans.{byRows}
 use Rattle.directions.specs.Numbers.{KeptOn, placeKept, keysBy}
-use Rattle.directions.specs.Doors.{spotOf, fits, lays, Laid, sightOf}
+use Rattle.directions.specs.Doors.{frameOf, spotOf, fits, lays, Laid, sightOf}
 use Rattle.directions.proofs.DoorLaws.{fits-if, lays-if}
 use Rattle.directions.proofs.SightLaws.{sight-told}
 use Rattle.directions.proofs.TableLaws.{frame-told}
@@ -30,7 +30,7 @@ use Rattle.directions.proofs.KeptLaws.{kept-line, kept-rank, inside-line, insid
 use Rattle.directions.proofs.TraceRows.{HasRow, trace-rows}
 use Rattle.directions.proofs.RoomLaws.{Roomy}
 use Rattle.directions.proofs.TracePlans.{trace-planes, trace-slack, trace-lines, trace-across, trace-ranked, trace-states-few, trace-steps-few, trace-formed, trace-room, trace-sequence}
-use Rattle.tracing.specs.Scans.{Sound, bitOf, keyOf}
+use Rattle.tracing.specs.Scans.{Sound, bitOf, keyOf, KeysLaid}
 use Rattle.tracing.specs.Sights.{Seen, seenAt}
 use Rattle.tracing.specs.declared.scan.Scan.{Scan}
 use Rattle.directions.specs.declared.sight.Sight.{Sight}
@@ -82,6 +82,10 @@ module _ (s : Scan) (sound : Sound s) (backwards : Bool) (x : ℕ) (r : Sight) (
   pub sight-across : r .plan .across ≡ r .frame .across
   sight-across = rw (seen .is-plan) (trace-across (r .frame) rows back (s .steps + 1) (s .setting .gaps + 1) (seen .spot))
 
+  sight-ranked : r .plan .ranked ≡ r .frame .diagonal
+  sight-ranked =
+      ap (λ (p : Plan). p .ranked) (seen .is-plan) ∙ trace-ranked (r .frame) rows back (s .steps + 1) (s .setting .gaps + 1) (seen .spot)
+
   -- the walks start at the picked pixel, which may be a gap
   pub sight-slack : r .plan .slack ≡ 65535
   sight-slack =
@@ -131,9 +135,7 @@ module _ (s : Scan) (sound : Sound s) (backwards : Bool) (x : ℕ) (r : Sight) (
       record {
         bounded = seen .framed .bounded;
         lies = λ i z hi hz. omega (arith, seen .framed .lies i z hi hz, seen .framed .area);
-        slim = λ e.
-            seen .of .slim
-            (sym (trace-ranked (r .frame) rows back (s .steps + 1) (s .setting .gaps + 1) (seen .spot)) ∙ ap (λ (p : Plan). p .ranked) (sym (seen .is-plan)) ∙ e);
+        slim = λ e. seen .of .slim (sym sight-ranked ∙ e);
       }
 
   -- the keys find room
@@ -143,13 +145,20 @@ module _ (s : Scan) (sound : Sound s) (backwards : Bool) (x : ℕ) (r : Sight) (
       lays-if (s .width) (s .height) (s .index) (r .plan .ranked) plate work (sound .size) (sound .known)
       (λ e. rw (seen .is-frame) at (sight-kept .slim e))
 
-  -- the keys where the plan has them
+  -- the keys of the plate stand where the plan has them
+  place-same : (q : ℕ) →
+      let f = frameOf (s .width) (s .height) (s .index) in placeKept f (f .diagonal) q ≡ placeKept (r .frame) (r .plan .ranked) q
+  place-same q = rw (sight-ranked, seen .is-frame) refl
+
   pub sight-keys :
-      (plate : List ℤ) (old new : List ℕ) → Laid (s .width) (s .height) (s .index) (r .plan .ranked) (s .setting .mode) plate old new →
-      KeysAre new (r .plan) (λ q. keyOf s plate (placeKept (r .frame) (r .plan .ranked) q))
-  unfolding keyOf keysBy
-  sight-keys plate old new l =
-      record { is = λ q h. rw (seen .is-frame) (l .keys .inside q (omega arith) (omega (arith, sight-keys-size, sight-area))) }
+      (plate : List ℤ) (work : List ℕ) → KeysLaid s plate work → KeysAre work (r .plan) (λ q. keyOf s plate (placeKept (r .frame) (r .plan .ranked) q))
+  sight-keys plate work l = record { is = λ q h. l .keys q (omega (arith, sight-keys-size, sight-area)) ∙ ap (keyOf s plate) (place-same q) }
+
+  pub keys-laid :
+      (plate : List ℤ) (work : List ℕ) → Levels plate → KeysAre work (r .plan) (λ q. keyOf s plate (placeKept (r .frame) (r .plan .ranked) q)) →
+      KeysLaid s plate work
+  keys-laid plate work levels k =
+      record { keys = λ q h. k .is q (omega (arith, sight-keys-size, sight-area)) ∙ ap (keyOf s plate) (sym (place-same q)); levels = levels }
 
   -- every pixel has its key somewhere
   kept-by : (b : Bool) → r .plan .ranked ≡ b → (i z : ℕ) → i < r .frame .lines → z < r .frame .across →
@@ -167,17 +176,20 @@ module _ (s : Scan) (sound : Sound s) (backwards : Bool) (x : ℕ) (r : Sight) (
     kept-line (r .frame) (r .plan) sight-lines sight-across i z hz hi,
   )
 
-  -- so that all levels are read
-  pub sight-levels :
+  -- so that all levels are read where the keys are laid
+  pub all-laid :
       (plate : List ℤ) (old new : List ℕ) → length plate ≡ s .width * s .height →
-      Laid (s .width) (s .height) (s .index) (r .plan .ranked) (s .setting .mode) plate old new → Levels plate
-  sight-levels plate old new size l =
-      levels-within plate
+      Laid (s .width) (s .height) (s .index) (r .plan .ranked) (s .setting .mode) plate old new → KeysLaid s plate new
+  unfolding keyOf keysBy
+  all-laid plate old new size l =
+      keys-laid plate new
+      (levels-within plate
       (λ p h.
       let w = seen .framed .whole p (omega arith) in
       let k = kept-by (r .plan .ranked) refl (w .0) (w .1) (w .2) (w .3) in
       subst (λ (n : ℕ). mag (levelAt plate n) < 32768) (ap (λ (f : Frame). placeKept f (r .plan .ranked) (k .0)) (sym (seen .is-frame)) ∙ k .2 ∙ w .4)
-      (l .small .size (k .0) (omega arith) (omega (arith, k .1, sight-area))))
+      (l .small .size (k .0) (omega arith) (omega (arith, k .1, sight-area)))))
+      (record { is = λ q h. rw (seen .is-frame) (l .keys .inside q (omega arith) (omega (arith, sight-keys-size, sight-area))) })
 
   pub sight-sequence :
       (plate : List ℤ) → Sequence (r .plan) (λ q. keyOf s plate (placeKept (r .frame) (r .plan .ranked) q)) (r .states) (seenAt s backwards plate x r)

@@ -13,10 +13,9 @@ use Rattle.states.specs.States.{Holds}
 use Rattle.sweeps.specs.Stacks.{Sequence, Stacked, StackFits, Fetched, lastMark}
 use Rattle.plans.specs.declared.plan.Plan.{Plan}
 use Rattle.sweeps.specs.declared.stack.Stack.{Stack}
-use Rattle.directions.specs.Doors.{Laid}
 use Rattle.directions.specs.Numbers.{placeKept}
 use Rattle.directions.proofs.RoomLaws.{Roomy}
-use Rattle.tracing.specs.Scans.{Sound, bitOf, keyOf}
+use Rattle.tracing.specs.Scans.{Sound, bitOf, keyOf, KeysLaid}
 use Rattle.tracing.specs.Sights.{Seen, seenAt}
 use Rattle.headings.specs.Trails.{Within, Trail, indexAfter}
 use Rattle.tracing.specs.Following.{lowAlong, Stands, Kept, EndsAt}
@@ -47,7 +46,7 @@ top-state work marks base p f (suc k) want d e some =
 
 module _ (s : Scan) (b : Bool) (plate : List ℤ) (x : ℕ) (r : Sight) (sound : Sound s) (view : Seen s b x r) where
   -- before the first state is made
-  module _ (old work marks : List ℕ) (stack : Stack) (none : stack .depth ≡ 0) where
+  module _ (work marks : List ℕ) (stack : Stack) (none : stack .depth ≡ 0) where
     pub empty-fits :
         Roomy (r .plan) (length work) → stack .base ≡ keysSize (r .plan) → 1 ≤ stack .places → stack .places ≤ 64 →
         stack .places * stateSize (r .plan) ≤ length work - stack .base → stack .places ≤ length marks → StackFits (r .plan) stack (length work) (length marks)
@@ -62,12 +61,10 @@ module _ (s : Scan) (b : Bool) (plate : List ℤ) (x : ℕ) (r : Sight) (sound :
           in-marks = in-marks;
         }
 
-    pub kept-empty :
-        Laid (s .width) (s .height) (s .index) (r .plan .ranked) (s .setting .mode) plate old work →
-        StackFits (r .plan) stack (length work) (length marks) → Kept s b plate x r work marks stack
-    kept-empty filled fits =
+    pub kept-empty : KeysLaid s plate work → StackFits (r .plan) stack (length work) (length marks) → Kept s b plate x r work marks stack
+    kept-empty laid fits =
         record {
-          keys = sight-keys s sound b x r view plate old work filled;
+          keys = sight-keys s sound b x r view plate work laid;
           states =
               record {
                 marked = λ t l. absurd (omega arith);

@@ -12,7 +12,10 @@ use Rattle.plate.specs.Opening.{levelAt}
 use Rattle.plate.specs.declared.setting.Setting.{Setting}
 use Rattle.frames.specs.Keys.{keyBy}
 use Rattle.walks.specs.declared.found.Found.{Found}
+use Rattle.states.specs.Runs.{Apart}
+use Rattle.tracing.specs.Scans.{bitOf, keyOf, KeysLaid}
 use Rattle.tracing.specs.Following.{Leads}
+use Rattle.tracing.specs.declared.scan.Scan.{Scan}
 use Rattle.headings.specs.Usable.{usable}
 use Rattle.theory.specs.BestWalks.{gapEnd, bestWalk, term}
 use Rattle.theory.specs.Walks.{around}
@@ -24,6 +27,12 @@ cells notes at i = getD notes (at + i) 0
 -- the best walks of 0 to m steps from x, k + 1 numbers for each
 pub record Noted (slack : ℕ) (numbers : ℕ → ℕ) (W H bit : ℕ) (backwards : Bool) (g : ℕ → ℕ) (k m x : ℕ) : Type 0 where
   pub is : (l j : ℕ) → l ≤ m → j ≤ k → numbers (l * (k + 1) + j) ≡ bestWalk slack (around backwards W H bit) g l j x
+
+-- one side of a direction is noted from `to` on, by the keys of the plate, which are left for the other side
+pub record NotedSide (s : Scan) (backwards : Bool) (plate : List ℤ) (x to : ℕ) (work old new : List ℕ) : Type 0 where
+  pub noted : Noted (s .slack) (cells new to) (s .width) (s .height) (bitOf s) backwards (keyOf s plate) (s .setting .gaps) (s .steps) x
+  pub apart : Apart old new to (to + (s .steps + 1) * (s .setting .gaps + 1))
+  pub left : KeysLaid s plate work
 
 -- A path through x is known by numbers: in the direction with this bit it has `before` steps to x with at most `gaps` pixels below t, and its other
 -- steps from x on with the other gaps, and may end where it does; m steps and k gaps in all, and `spare` steps less than the direction's longest paths.

@@ -5,13 +5,13 @@ ghost use lib.ListN.{length};
 ghost use Rattle.tracing.specs.Scans.{Sound, bitOf, keyOf};
 ghost use Rattle.tracing.specs.Finding.{Attained};
 ghost use Rattle.tracing.specs.Drawing.{Drawn};
-ghost use Rattle.theory.specs.Modes.{Levels};
 use crate::follow::Walk;
 use crate::follow::follow;
 use crate::scan::Scan;
+use crate::sight::lay_keys;
 use walks::Found;
 
-// The pixel x, the walk on from it and the walk back.
+// The pixel x, the walk on from it and the walk back. The keys are laid once for both.
 pub(crate) fn draw(
     path: &mut [usize],
     work: &mut [u16],
@@ -22,12 +22,12 @@ pub(crate) fn draw(
 )
     requires { ⌜ Sound scan ⌝ }
     requires { ⌜ (length (now plate) ≡ scan .width * scan .height) × (4 * (scan .setting .gaps + 1) * (scan .width * scan .height) ≤ length (now work)) × (length (now path) ≡ scan .steps + 1) ⌝ }
-    requires { ⌜ Levels (now plate) ⌝ }
     requires { ⌜ Attained (scan .slack) (scan .width) (scan .height) (scan .steps) (scan .setting .gaps) (scan .spare) (keyOf scan (now plate)) x (bitOf scan) (found .key) (found .before) (found .gaps) ⌝ }
     ensures { λ _. ⌜ Drawn (scan .slack) (scan .width) (scan .height) (bitOf scan) (keyOf scan (now (plate .entry))) (found .key) (scan .steps) (scan .setting .gaps) x (now (path .exit)) ⌝ }
 {
     let start = found.before;
     path[start] = x;
+    lay_keys(work, plate, scan);
     let on = Walk {
         key: found.key,
         start: start,

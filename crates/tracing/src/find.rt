@@ -13,6 +13,7 @@ ghost use Rattle.theory.specs.Modes.{Levels};
 use crate::notes::note_side;
 use crate::scan::Scan;
 use crate::scan::scan_of;
+use crate::sight::lay_keys;
 use crate::taken::search;
 use headings::is_usable;
 use headings::rank_of;
@@ -25,7 +26,7 @@ use walks::least;
 // steps and gaps that a path can have.
 const GOES: usize = 9216;
 
-// All paths of one direction through the pixel x.
+// All paths of one direction through the pixel x. The keys are laid once for both sides.
 fn find_in(work: &mut [u16], plate: &[i16], scan: Scan, x: usize, found: Found) -> Found
     requires { ⌜ Sound scan ⌝ }
     requires { ⌜ (length (now plate) ≡ scan .width * scan .height) × (x < scan .width * scan .height) × (4 * (scan .setting .gaps + 1) * (scan .width * scan .height) ≤ length (now work)) ⌝ }
@@ -41,8 +42,9 @@ fn find_in(work: &mut [u16], plate: &[i16], scan: Scan, x: usize, found: Found) 
     let own = frames::key_by(scan.setting.mode, plate[x]);
     let rank = rank_of(scan.width, scan.height, scan.index, x);
     let mut notes = [0u16; 18432];
-    note_side(&mut notes, 0, work, plate, scan, true, x);
-    note_side(&mut notes, GOES, work, plate, scan, false, x);
+    lay_keys(work, plate, scan);
+    note_side(&mut notes, 0, work, scan, true, x);
+    note_side(&mut notes, GOES, work, scan, false, x);
     search(&notes, both, own, scan.index, rank, scan.spare, found)
 }
 

@@ -5,7 +5,7 @@ ghost use mathlib.Core.Path.{_≡_};
 ghost use mathlib.Core.Bool.{cond};
 ghost use Prim.Native.Nat.{_+_, _-_, _*_, _≤_, _<_};
 ghost use lib.ListN.{length, getD};
-ghost use Rattle.tracing.specs.Scans.{Sound, bitOf, keyOf};
+ghost use Rattle.tracing.specs.Scans.{Sound, bitOf, keyOf, KeysLaid};
 ghost use Rattle.plans.specs.Plans.{Sound as PlanSound, rowAt};
 ghost use Rattle.directions.specs.Numbers.{KeptOn, placeKept};
 ghost use Rattle.directions.specs.Doors.{frameOf};
@@ -15,7 +15,6 @@ ghost use Rattle.headings.specs.Trails.{Within, Trail, indexAfter};
 ghost use Rattle.tracing.specs.Following.{Leads, lowAlong, EndsAt, Stands, Kept, HeldFit};
 ghost use Rattle.theory.specs.Modes.{Levels};
 use crate::scan::Scan;
-use crate::sight::lay_keys;
 use crate::sight::sight_of;
 use crate::taken::fetch;
 use crate::taken::find_end;
@@ -99,6 +98,7 @@ fn walk_in(
     ensures { λ _. ⌜ Trail (scan .width) (scan .height) (bitOf scan) backwards (now (path .entry)) (now (path .exit)) (walk .start) (walk .steps) ⌝ }
     ensures { λ _. ⌜ lowAlong backwards (keyOf scan (now (plate .entry))) (walk .key) (now (path .exit)) (walk .start) (walk .steps + 1) ≤ walk .gaps ⌝ }
     ensures { λ _. ⌜ EndsAt scan (now (plate .entry)) (walk .key) (getD (now (path .exit)) (indexAfter backwards (walk .start) (walk .steps)) 0) ⌝ }
+    ensures { λ _. ⌜ KeysLaid scan (now (plate .entry)) (now (work .exit)) ⌝ }
 {
     let plan = sight.plan;
     let mut stack = made;
@@ -144,13 +144,14 @@ fn follow_counted(
 )
     requires { ⌜ (Sound scan) × (1 ≤ walk .key) ⌝ }
     requires { ⌜ (length (now plate) ≡ scan .width * scan .height) × (4 * (scan .setting .gaps + 1) * (scan .width * scan .height) ≤ length (now work)) × (walk .steps ≤ scan .steps) × (walk .gaps ≤ scan .setting .gaps) ⌝ }
-    requires { ⌜ Levels (now plate) ⌝ }
+    requires { ⌜ KeysLaid scan (now plate) (now work) ⌝ }
     requires { ⌜ (length (now path) ≤ 65536) × (walk .start < length (now path)) ⌝ }
     requires { ⌜ Within backwards (length (now path)) (walk .start) (walk .steps) ⌝ }
     requires { ⌜ Leads (scan .slack) (scan .width) (scan .height) (bitOf scan) backwards (keyOf scan (now plate)) (walk .key) (scan .spare) (walk .steps) (walk .gaps) (getD (now path) (walk .start) 0) ⌝ }
     ensures { λ _. ⌜ Trail (scan .width) (scan .height) (bitOf scan) backwards (now (path .entry)) (now (path .exit)) (walk .start) (walk .steps) ⌝ }
     ensures { λ _. ⌜ lowAlong backwards (keyOf scan (now (plate .entry))) (walk .key) (now (path .exit)) (walk .start) (walk .steps + 1) ≤ walk .gaps ⌝ }
     ensures { λ _. ⌜ EndsAt scan (now (plate .entry)) (walk .key) (getD (now (path .exit)) (indexAfter backwards (walk .start) (walk .steps)) 0) ⌝ }
+    ensures { λ _. ⌜ KeysLaid scan (now (plate .entry)) (now (work .exit)) ⌝ }
 {
     let mut held = [0u16; 18720];
     let mut below = [0u16; 1032];
@@ -158,7 +159,6 @@ fn follow_counted(
     let start = walk.start;
     let sight = sight_of(scan, backwards, path[start]);
     let plan = sight.plan;
-    lay_keys(work, plate, scan, plan.ranked);
     let base = plan.lines * plan.across;
     let empty = Stack {
         base: base,
@@ -204,13 +204,14 @@ pub(crate) fn follow(
 )
     requires { ⌜ Sound scan ⌝ }
     requires { ⌜ (length (now plate) ≡ scan .width * scan .height) × (4 * (scan .setting .gaps + 1) * (scan .width * scan .height) ≤ length (now work)) × (walk .steps ≤ scan .steps) × (walk .gaps ≤ scan .setting .gaps) ⌝ }
-    requires { ⌜ Levels (now plate) ⌝ }
+    requires { ⌜ KeysLaid scan (now plate) (now work) ⌝ }
     requires { ⌜ (length (now path) ≤ 65536) × (walk .start < length (now path)) ⌝ }
     requires { ⌜ Within backwards (length (now path)) (walk .start) (walk .steps) ⌝ }
     requires { ⌜ Leads (scan .slack) (scan .width) (scan .height) (bitOf scan) backwards (keyOf scan (now plate)) (walk .key) (scan .spare) (walk .steps) (walk .gaps) (getD (now path) (walk .start) 0) ⌝ }
     ensures { λ _. ⌜ Trail (scan .width) (scan .height) (bitOf scan) backwards (now (path .entry)) (now (path .exit)) (walk .start) (walk .steps) ⌝ }
     ensures { λ _. ⌜ lowAlong backwards (keyOf scan (now (plate .entry))) (walk .key) (now (path .exit)) (walk .start) (walk .steps + 1) ≤ walk .gaps ⌝ }
     ensures { λ _. ⌜ EndsAt scan (now (plate .entry)) (walk .key) (getD (now (path .exit)) (indexAfter backwards (walk .start) (walk .steps)) 0) ⌝ }
+    ensures { λ _. ⌜ KeysLaid scan (now (plate .entry)) (now (work .exit)) ⌝ }
 {
     if walk.key == 0 {
         follow_any(

@@ -1,11 +1,9 @@
 // One side of a direction, as it is seen from the picked pixel, and the keys that its states read: the doors
 // of `directions`, by the scan.
 ghost use mathlib.Core.Path.{_≡_};
-ghost use mathlib.Core.Bool.{true};
-ghost use Prim.Native.Nat.{_*_, _<_};
+ghost use Prim.Native.Nat.{_+_, _*_, _≤_, _<_};
 ghost use lib.ListN.{length};
-ghost use Rattle.directions.specs.Doors.{lays, Laid};
-ghost use Rattle.tracing.specs.Scans.{Sound};
+ghost use Rattle.tracing.specs.Scans.{Sound, KeysLaid};
 ghost use Rattle.tracing.specs.Sights.{Seen};
 use crate::scan::Scan;
 use directions::Sight;
@@ -26,18 +24,21 @@ pub(crate) fn sight_of(scan: Scan, backwards: bool, x: usize) -> Sight
     )
 }
 
-// The keys of the plate, by lines or by ranks.
-pub(crate) fn lay_keys(work: &mut [u16], plate: &[i16], scan: Scan, ranked: bool)
-    requires { ⌜ lays (scan .width) (scan .height) (scan .index) ranked (length (now plate)) (length (now work)) ≡ true ⌝ }
-    ensures { λ _. ⌜ Laid (scan .width) (scan .height) (scan .index) ranked (scan .setting .mode) (now (plate .entry)) (now (work .entry)) (now (work .exit)) ⌝ }
+// The keys of the plate, for both sides: whether they are laid by lines or by ranks is the same from every
+// pixel, so the first one is asked.
+pub(crate) fn lay_keys(work: &mut [u16], plate: &[i16], scan: Scan)
+    requires { ⌜ Sound scan ⌝ }
+    requires { ⌜ (length (now plate) ≡ scan .width * scan .height) × (4 * (scan .setting .gaps + 1) * (scan .width * scan .height) ≤ length (now work)) ⌝ }
+    ensures { λ _. ⌜ KeysLaid scan (now (plate .entry)) (now (work .exit)) ⌝ }
 {
+    let sight = sight_of(scan, true, 0);
     directions::lay_keys(
         work,
         plate,
         scan.width,
         scan.height,
         scan.index,
-        ranked,
+        sight.plan.ranked,
         scan.setting.mode,
     );
 }

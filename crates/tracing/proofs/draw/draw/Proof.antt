@@ -18,23 +18,26 @@ mul-path c = search needs
 slice-write-path : tie.Need-slice-write-path
 slice-write-path c = search needs
 
+lay-keys-requires : tie.Need-lay-keys-requires
+lay-keys-requires c κs = search needs
+
 sub-t10 : tie.Need-sub-t10
 sub-t10 c = search needs
 
-sub-t12 : tie.Need-sub-t12
-sub-t12 c = search needs
+sub-t15 : tie.Need-sub-t15
+sub-t15 c = search needs
 
 follow-requires : tie.Need-follow-requires
 follow-requires c κs =
-    let s = c .before .before .before .before .before .before .before in
+    let s = c .before .before .before .before .before .before .before .before .before .before .before in
     let a = s .args in
-    let t = s .pre .1 .1 .1 in
+    let t = s .pre .1 .1 in
     let here = getD-set-same (a .path .now) (a .found .before) (a .x) 0 (omega (arith, s .pre .1 .0, t .of-path)) in (
       s .pre .0,
       (
-        (s .pre .1 .0 .0, s .pre .1 .0 .1, omega arith, omega arith),
+        (s .pre .1 .0 .0, omega (arith, s .pre .1 .0 .1, c .before .before .before .before .before .before .before .lay-keys .kept .0), omega arith, omega arith),
         (
-          s .pre .1 .1 .0,
+          c .before .before .before .before .before .before .before .lay-keys .ensures,
           (
             (simp length-set (omega (arith, s .pre .1 .0, s .pre .0 .short)), simp length-set (omega (arith, s .pre .1 .0, t .of-path))),
             (
@@ -51,17 +54,17 @@ follow-requires c κs =
 
 follow-requires-2 : tie.Need-follow-requires-2
 follow-requires-2 c κs =
-    let s = c .before .before .before .before .before .before .before .before .before .before .before .before .before .before in
+    let s = c .before .before .before .before .before .before .before .before .before .before .before .before .before .before .before .before .before .before in
     let a = s .args in
-    let t = s .pre .1 .1 .1 in
+    let t = s .pre .1 .1 in
     let f = c .before .before .before .before .before .before .follow in
     let size = simp length-set at (f .ensures .0 .len) in
     let here = f .ensures .0 .kept (a .found .before) (omega arith) ∙ getD-set-same (a .path .now) (a .found .before) (a .x) 0 (omega (arith, s .pre .1 .0, t .of-path)) in (
       s .pre .0,
       (
-        (s .pre .1 .0 .0, omega (arith, s .pre .1 .0, f .kept .1 .0), t .of-path, t .few),
+        (s .pre .1 .0 .0, omega (arith, s .pre .1 .0, f .kept .1 .0, c .before .before .before .before .before .before .before .before .before .before .before .before .before .before .lay-keys .kept .0), t .of-path, t .few),
         (
-          s .pre .1 .1 .0,
+          f .ensures .1 .1 .1,
           (
             (omega (arith, size, s .pre .1 .0, s .pre .0 .short), omega (arith, size, s .pre .1 .0, t .of-path)),
             ((omega arith, omega (arith, size, s .pre .1 .0, t .of-path)), rw here (t .to-x)),
@@ -79,15 +82,15 @@ same-length-2 c = search needs
 
 returns : tie.Need-returns
 returns c =
-    let s = c .before .before .before .before .before .before .before .before .before .before .before .before .before .before .before .before .before .before .before in
+    let s = c .before .before .before .before .before .before .before .before .before .before .before .before .before .before .before .before .before .before .before .before .before .before .before in
     let a = s .args in
-    let t = s .pre .1 .1 .1 in
+    let t = s .pre .1 .1 in
     let f = c .before .before .before .before .before .before .before .before .before .before .before .follow in
     let g = c .before .before .before .before .follow2 in
     let l = a .found .before in
     drawn (a .scan .slack) (a .scan .width) (a .scan .height) _ _ (a .found .key) (a .scan .steps) (a .scan .setting .gaps) (a .x) l (a .found .gaps) (set (a .path .now) l (a .x)) (f .last .0) (g .last .0)
     (t .of-path) (t .few) (omega (arith, length-set (a .path .now) l (a .x), s .pre .1 .0)) (getD-set-same (a .path .now) l (a .x) 0 (omega (arith, s .pre .1 .0, t .of-path)))
-    (f .ensures .0) (f .ensures .1 .0) (f .ensures .1 .1) (g .ensures .0) (g .ensures .1 .0) (g .ensures .1 .1)
+    (f .ensures .0) (f .ensures .1 .0) (f .ensures .1 .1 .0) (g .ensures .0) (g .ensures .1 .0) (g .ensures .1 .1 .0)
 
 pub draw-spec : {M : Type 1} → statement M
 draw-spec =
@@ -95,8 +98,9 @@ draw-spec =
     (tie.spec
     mul-path
     slice-write-path
+    lay-keys-requires
     sub-t10
-    sub-t12
+    sub-t15
     follow-requires
     follow-requires-2
     same-length

@@ -28,7 +28,7 @@ returns c =
     f .ensures .0
     ∙ goes-if (a .scan .width) (a .scan .height) (a .scan .index) (a .backwards) (a .walk .start) (a .walk .steps) (a .path .now) (s .pre .1 .1 .1 .0 .0) (s .pre .1 .1 .1 .0 .1)
     (s .pre .1 .1 .1 .1 .0) (record { size = s .pre .0 .size; known = s .pre .0 .known; on = leads .on }) (leads .roomy) in
-    (rw goes at (f .ensures .1), (omega (arith, none, ap low (c .before .before .before .before .if1 .taken)), omega (arith, c .before .before .before .before .if1 .taken)))
+    (rw goes at (f .ensures .1), (omega (arith, none, ap low (c .before .before .before .before .if1 .taken)), (omega (arith, c .before .before .before .before .if1 .taken), s .pre .1 .1 .0)))
 
 follow-counted-requires : tie.Need-follow-counted-requires
 follow-counted-requires c κs = search needs

@@ -1,4 +1,4 @@
--- `follow_counted` meets its contract: the keys are laid out, the state with the walks of all steps is made, and from a far end that is found there the
+-- `follow_counted` meets its contract: the state with the walks of all steps is made, and from a far end that is found there the
 -- path is written.
 use Prim.Native.Nat.{ℕ, _+_, _*_, _≤_}
 use mathlib.Core.Path.{_≡_, refl, _∙_}
@@ -10,7 +10,7 @@ use Rattle.plans.specs.declared.plan.Plan.{Plan}
 use Rattle.sweeps.specs.declared.stack.Stack.{Stack}
 use Rattle.sweeps.proofs.StackLaws.{row-below, state-below}
 use Rattle.tracing.specs.Following.{Kept, HeldFit}
-use Rattle.tracing.proofs.Sighting.{sight-planes, sight-keys-size, sight-formed, sight-sound, sight-room, sight-states-few, sight-lays}
+use Rattle.tracing.proofs.Sighting.{sight-planes, sight-formed, sight-sound, sight-room, sight-states-few}
 use Rattle.tracing.proofs.Walking.{empty-fits, kept-empty, kept-fetched, top-held, top-fits}
 use Rattle.tracing.proofs.FarEnd.{wanted-some, end-few, end-row, end-stands, end-ends}
 use Rattle.tracing.proofs.follow.follow_counted.Statement.{statement}
@@ -19,33 +19,32 @@ use Rattle.tracing.proofs.follow.follow_counted.Tie as tie
 -- before the first state is made the stack is empty
 start-kept :
     (c : tie.After-wanted) →
-    let a = c .before .before .before .before .before .before .before .before .before .before .before .before .before .before .before .before .before .before .before .args in
-    let v = c .before .before .before .before .before .before .before .before .before .before .before .before .before .before .before .sight-of in
-    Kept (a .scan) (a .backwards) (a .plate .now) (getD (a .path .now) (a .walk .start) 0) (v .result) (c .before .before .before .before .before .before .before .before .before .before .before .before .lay-keys .last .0) (replicate 64 0)
+    let a = c .before .before .before .before .before .before .before .before .before .before .before .before .before .before .before .args in
+    let v = c .before .before .before .before .before .before .before .before .before .before .before .sight-of in
+    Kept (a .scan) (a .backwards) (a .plate .now) (getD (a .path .now) (a .walk .start) 0) (v .result) (a .work .now) (replicate 64 0)
     (record { base = v .result .plan .lines * v .result .plan .across; places = c .before .before .before .before .before .before .states-fitting .result; depth = 0 })
 start-kept c =
-    let s = c .before .before .before .before .before .before .before .before .before .before .before .before .before .before .before .before .before .before .before in
+    let s = c .before .before .before .before .before .before .before .before .before .before .before .before .before .before .before in
     let a = s .args in
-    let v = c .before .before .before .before .before .before .before .before .before .before .before .before .before .before .before .sight-of in
+    let v = c .before .before .before .before .before .before .before .before .before .before .before .sight-of in
     let x = getD (a .path .now) (a .walk .start) 0 in
-    let k = c .before .before .before .before .before .before .before .before .before .before .before .before .lay-keys in
     let o = c .before .before .before .before .before .before .states-fitting .ensures in
-    let room = sight-room (a .scan) (s .pre .0 .0) (a .backwards) x (v .result) (v .ensures) (length (k .last .0)) (omega (arith, s .pre .1 .0 .1, k .ensures .keys .len)) in
+    let room = sight-room (a .scan) (s .pre .0 .0) (a .backwards) x (v .result) (v .ensures) (length (a .work .now)) (s .pre .1 .0 .1) in
     let stack : Stack = record { base = v .result .plan .lines * v .result .plan .across; places = c .before .before .before .before .before .before .states-fitting .result; depth = 0 } in
-    kept-empty (a .scan) (a .backwards) (a .plate .now) x (v .result) (s .pre .0 .0) (v .ensures) (a .work .now) (k .last .0) (replicate 64 0) stack refl (k .ensures)
-    (empty-fits (a .scan) (a .backwards) (a .plate .now) x (v .result) (s .pre .0 .0) (v .ensures) (a .work .now) (k .last .0) (replicate 64 0) stack refl room refl (o .0) (o .1)
+    kept-empty (a .scan) (a .backwards) (a .plate .now) x (v .result) (s .pre .0 .0) (v .ensures) (a .work .now) (replicate 64 0) stack refl (s .pre .1 .1 .0)
+    (empty-fits (a .scan) (a .backwards) (a .plate .now) x (v .result) (s .pre .0 .0) (v .ensures) (a .work .now) (replicate 64 0) stack refl room refl (o .0) (o .1)
     (o .2) (o .1))
 
 -- the state that is wanted is one of the side's
-few-wanted : (c : tie.After-wanted) → c .wanted .result ≤ c .before .before .before .before .before .before .before .before .before .before .before .before .before .before .before .sight-of .result .states
+few-wanted : (c : tie.After-wanted) → c .wanted .result ≤ c .before .before .before .before .before .before .before .before .before .before .before .sight-of .result .states
 few-wanted c =
-    let s = c .before .before .before .before .before .before .before .before .before .before .before .before .before .before .before .before .before .before .before in
+    let s = c .before .before .before .before .before .before .before .before .before .before .before .before .before .before .before in
     let a = s .args in
-    let v = c .before .before .before .before .before .before .before .before .before .before .before .before .before .before .before .sight-of in
+    let v = c .before .before .before .before .before .before .before .before .before .before .before .sight-of in
     omega (
       arith,
       c .wanted .ensures,
-      end-few (a .scan) (a .backwards) (a .plate .now) (getD (a .path .now) (a .walk .start) 0) (v .result) (s .pre .0 .0) (v .ensures) (s .pre .1 .1 .0) (a .walk .key) (a .walk .steps)
+      end-few (a .scan) (a .backwards) (a .plate .now) (getD (a .path .now) (a .walk .start) 0) (v .result) (s .pre .0 .0) (v .ensures) (s .pre .1 .1 .0 .levels) (a .walk .key) (a .walk .steps)
           (a .walk .gaps) (s .pre .0 .1) (s .pre .1 .0 .2) (s .pre .1 .0 .3) (s .pre .1 .1 .1 .1 .1),
     )
 
@@ -61,55 +60,44 @@ slice-read-sight-of c = search needs
 sight-of-requires : tie.Need-sight-of-requires
 sight-of-requires c κs = search needs
 
-lay-keys-requires : tie.Need-lay-keys-requires
-lay-keys-requires c κs =
+mul-base : tie.Need-mul-base
+mul-base c =
     let s = c .before .before .before .before .before .before in
     let a = s .args in
     let v = c .before .before .sight-of in
-    let x = getD (a .path .now) (a .walk .start) 0 in
-    let room = sight-room (a .scan) (s .pre .0 .0) (a .backwards) x (v .result) (v .ensures) (length (a .work .now)) (s .pre .1 .0 .1) in
-    let size = sight-keys-size (a .scan) (s .pre .0 .0) (a .backwards) x (v .result) (v .ensures) in
-    sight-lays (a .scan) (s .pre .0 .0) (a .backwards) x (v .result) (v .ensures) _ _ (s .pre .1 .0 .0) (omega (arith, room .alone, size, v .ensures .framed .area))
-
-mul-base : tie.Need-mul-base
-mul-base c =
-    let s = c .before .before .before .before .before .before .before .before .before .before in
-    let a = s .args in
-    let v = c .before .before .before .before .before .before .sight-of in
     omega (arith, sight-room (a .scan) (s .pre .0 .0) (a .backwards) (getD (a .path .now) (a .walk .start) 0) (v .result) (v .ensures) (length (a .work .now)) (s .pre .1 .0 .1) .keys)
 
 sub-states-fitting : tie.Need-sub-states-fitting
 sub-states-fitting c =
-    let s = c .before .before .before .before .before .before .before .before .before .before in
+    let s = c .before .before .before .before .before .before in
     let a = s .args in
-    let v = c .before .before .before .before .before .before .sight-of in
+    let v = c .before .before .sight-of in
     omega (
       arith,
       sight-room (a .scan) (s .pre .0 .0) (a .backwards) (getD (a .path .now) (a .walk .start) 0) (v .result) (v .ensures) (length (a .work .now)) (s .pre .1 .0 .1) .alone,
-      c .before .before .before .lay-keys .ensures .keys .len,
     )
 
 mul-states-fitting : tie.Need-mul-states-fitting
 mul-states-fitting c =
-    let s = c .before .before .before .before .before .before .before .before .before .before .before in
+    let s = c .before .before .before .before .before .before .before in
     let a = s .args in
-    let v = c .before .before .before .before .before .before .before .sight-of in
+    let v = c .before .before .before .sight-of in
     omega (arith, row-below (v .result .plan) (sight-sound (a .scan) (s .pre .0 .0) (a .backwards) (getD (a .path .now) (a .walk .start) 0) (v .result) (v .ensures)))
 
 mul-states-fitting-2 : tie.Need-mul-states-fitting-2
 mul-states-fitting-2 c =
-    let s = c .before .before .before .before .before .before .before .before .before .before .before .before in
+    let s = c .before .before .before .before .before .before .before .before in
     let a = s .args in
-    let v = c .before .before .before .before .before .before .before .before .sight-of in
+    let v = c .before .before .before .before .sight-of in
     omega (arith, state-below (v .result .plan) (sight-sound (a .scan) (s .pre .0 .0) (a .backwards) (getD (a .path .now) (a .walk .start) 0) (v .result) (v .ensures)))
 
 states-fitting-requires : tie.Need-states-fitting-requires
 states-fitting-requires c κs =
-    let s = c .before .before .before .before .before .before .before .before .before .before .before .before in
+    let s = c .before .before .before .before .before .before .before .before in
     let a = s .args in
-    let v = c .before .before .before .before .before .before .before .before .sight-of in
+    let v = c .before .before .before .before .sight-of in
     let room = sight-room (a .scan) (s .pre .0 .0) (a .backwards) (getD (a .path .now) (a .walk .start) 0) (v .result) (v .ensures) (length (a .work .now)) (s .pre .1 .0 .1) in
-    (room .some, omega (arith, room .alone, c .before .before .before .before .before .lay-keys .ensures .keys .len))
+    (room .some, omega (arith, room .alone))
 
 slice-aggregate-fetch : tie.Need-slice-aggregate-fetch
 slice-aggregate-fetch c = search needs
@@ -122,16 +110,16 @@ slice-aggregate-fetch-3 c = search needs
 
 add-wanted : tie.Need-add-wanted
 add-wanted c =
-    let s = c .before .before .before .before .before .before .before .before .before .before .before .before .before .before .before .before .before .before in omega (arith, s .pre .1 .0 .2, s .pre .0 .0 .few-steps)
+    let s = c .before .before .before .before .before .before .before .before .before .before .before .before .before .before in omega (arith, s .pre .1 .0 .2, s .pre .0 .0 .few-steps)
 
 wanted-requires : tie.Need-wanted-requires
 wanted-requires c κs = search needs
 
 fetch-requires : tie.Need-fetch-requires
 fetch-requires c κs =
-    let s = c .before .before .before .before .before .before .before .before .before .before .before .before .before .before .before .before .before .before .before in
+    let s = c .before .before .before .before .before .before .before .before .before .before .before .before .before .before .before in
     let a = s .args in
-    let v = c .before .before .before .before .before .before .before .before .before .before .before .before .before .before .before .sight-of in
+    let v = c .before .before .before .before .before .before .before .before .before .before .before .sight-of in
     let x = getD (a .path .now) (a .walk .start) 0 in
     let room = sight-room (a .scan) (s .pre .0 .0) (a .backwards) x (v .result) (v .ensures) (length (a .work .now)) (s .pre .1 .0 .1) in (
       sight-formed (a .scan) (s .pre .0 .0) (a .backwards) x (v .result) (v .ensures),
@@ -143,9 +131,9 @@ fetch-requires c κs =
 
 top-of-requires : tie.Need-top-of-requires
 top-of-requires c κs =
-    let s = c .before .before .before .before .before .before .before .before .before .before .before .before .before .before .before .before .before .before .before .before .before .before .before .before .before in
+    let s = c .before .before .before .before .before .before .before .before .before .before .before .before .before .before .before .before .before .before .before .before .before in
     let a = s .args in
-    let v = c .before .before .before .before .before .before .before .before .before .before .before .before .before .before .before .before .before .before .before .before .before .sight-of in
+    let v = c .before .before .before .before .before .before .before .before .before .before .before .before .before .before .before .before .before .sight-of in
     let f = c .before .before .before .before .before .fetch in
     let fits = start-kept (c .before .before .before .before .before .before) .fits in (
       sight-formed (a .scan) (s .pre .0 .0) (a .backwards) (getD (a .path .now) (a .walk .start) 0) (v .result) (v .ensures),
@@ -155,9 +143,9 @@ top-of-requires c κs =
 
 find-end-requires : tie.Need-find-end-requires
 find-end-requires c κs =
-    let s = c .before .before .before .before .before .before .before .before .before .before .before .before .before .before .before .before .before .before .before .before .before .before .before .before .before .before .before in
+    let s = c .before .before .before .before .before .before .before .before .before .before .before .before .before .before .before .before .before .before .before .before .before .before .before in
     let a = s .args in
-    let v = c .before .before .before .before .before .before .before .before .before .before .before .before .before .before .before .before .before .before .before .before .before .before .before .sight-of in
+    let v = c .before .before .before .before .before .before .before .before .before .before .before .before .before .before .before .before .before .before .before .sight-of in
     let x = getD (a .path .now) (a .walk .start) 0 in
     let f = c .before .before .before .before .before .before .before .fetch in
     let top =
@@ -166,7 +154,7 @@ find-end-requires c κs =
       sight-formed (a .scan) (s .pre .0 .0) (a .backwards) x (v .result) (v .ensures),
       (
         omega (arith, s .pre .1 .0 .2, s .pre .0 .0 .few-steps),
-        end-row (a .scan) (a .backwards) (a .plate .now) x (v .result) (s .pre .0 .0) (v .ensures) (s .pre .1 .1 .0) (a .walk .key) (a .walk .steps) (a .walk .gaps) (s .pre .0 .1) (s .pre .1 .0 .2) (s .pre .1 .0 .3) (s .pre .1 .1 .1 .1 .1),
+        end-row (a .scan) (a .backwards) (a .plate .now) x (v .result) (s .pre .0 .0) (v .ensures) (s .pre .1 .1 .0 .levels) (a .walk .key) (a .walk .steps) (a .walk .gaps) (s .pre .0 .1) (s .pre .1 .0 .2) (s .pre .1 .0 .3) (s .pre .1 .1 .1 .1 .1),
         omega (arith, s .pre .1 .0 .3, sight-planes (a .scan) (s .pre .0 .0) (a .backwards) x (v .result) (v .ensures)),
         top .0,
         top .1,
@@ -184,9 +172,9 @@ slice-aggregate-walk-in-3 c = search needs
 
 walk-in-requires : tie.Need-walk-in-requires
 walk-in-requires c κs =
-    let s = c .before .before .before .before .before .before .before .before .before .before .before .before .before .before .before .before .before .before .before .before .before .before .before .before .before .before .before .before .before .before .before .before .before in
+    let s = c .before .before .before .before .before .before .before .before .before .before .before .before .before .before .before .before .before .before .before .before .before .before .before .before .before .before .before .before .before in
     let a = s .args in
-    let v = c .before .before .before .before .before .before .before .before .before .before .before .before .before .before .before .before .before .before .before .before .before .before .before .before .before .before .before .before .before .sight-of in
+    let v = c .before .before .before .before .before .before .before .before .before .before .before .before .before .before .before .before .before .before .before .before .before .before .before .before .before .sight-of in
     let x = getD (a .path .now) (a .walk .start) 0 in
     let f = c .before .before .before .before .before .before .before .before .before .before .before .before .before .fetch in
     let w = c .before .before .before .before .before .before .before .before .before .before .before .before .before .before .wanted in
@@ -199,7 +187,7 @@ walk-in-requires c κs =
     top-held (a .scan) (a .backwards) (a .plate .now) x (v .result) (s .pre .0 .0) (v .ensures) _ _ (f .last .0) (f .last .1 .0) _ (f .result) (w .result) (few-wanted (c .before .before .before .before .before .before .before .before .before .before .before .before .before .before))
     (start-kept (c .before .before .before .before .before .before .before .before .before .before .before .before .before .before)) (f .ensures .0 .0) (f .ensures .0 .1) (f .ensures .0 .2) (f .ensures .1 .0) (c .before .before .before .before .before .before .before .top-of .result) (c .before .before .before .before .before .before .before .top-of .ensures)
     (omega (arith, w .ensures, wanted-some (a .scan) (a .backwards) (a .plate .now) x (v .result) (s .pre .0 .0) (v .ensures) (v .result .plan .ranked) (a .walk .steps))) in (
-      (s .pre .0 .0, s .pre .1 .0 .0, s .pre .1 .1 .0, s .pre .0 .1),
+      (s .pre .0 .0, s .pre .1 .0 .0, s .pre .1 .1 .0 .levels, s .pre .0 .1),
       (
         (s .pre .1 .1 .1 .0 .0, s .pre .1 .1 .1 .0 .1, s .pre .1 .0 .2),
         (
@@ -211,9 +199,9 @@ walk-in-requires c κs =
               (
                 (held-fit (v .result .plan) _ _ (room .halves) (room .row) (f .ensures .1 .1 .0) (f .ensures .1 .1 .1), e .ensures .is-gaps),
                 (
-                  end-stands (a .scan) (a .backwards) (a .plate .now) x (v .result) (s .pre .0 .0) (v .ensures) (s .pre .1 .1 .0) (a .walk .key) (a .walk .steps) (a .walk .gaps) (s .pre .0 .1)
+                  end-stands (a .scan) (a .backwards) (a .plate .now) x (v .result) (s .pre .0 .0) (v .ensures) (s .pre .1 .1 .0 .levels) (a .walk .key) (a .walk .steps) (a .walk .gaps) (s .pre .0 .1)
                       (s .pre .1 .0 .2) (s .pre .1 .0 .3) (s .pre .1 .1 .1 .1 .1) (f .last .0) (c .before .before .before .before .before .before .before .top-of .result) (w .result) (e .result) (w .ensures) held (kept .keys) (e .ensures),
-                  end-ends (a .scan) (a .backwards) (a .plate .now) x (v .result) (s .pre .0 .0) (v .ensures) (s .pre .1 .1 .0) (a .walk .key) (a .walk .steps) (a .walk .gaps) (s .pre .0 .1)
+                  end-ends (a .scan) (a .backwards) (a .plate .now) x (v .result) (s .pre .0 .0) (v .ensures) (s .pre .1 .1 .0 .levels) (a .walk .key) (a .walk .steps) (a .walk .gaps) (s .pre .0 .1)
                       (s .pre .1 .0 .2) (s .pre .1 .0 .3) (s .pre .1 .1 .1 .1 .1) (f .last .0) (c .before .before .before .before .before .before .before .top-of .result) (w .result) (e .result) (w .ensures) held (kept .keys) (e .ensures),
                 ),
               ),
@@ -228,7 +216,7 @@ same-length c = search needs
 
 same-length-2 : tie.Need-same-length-2
 same-length-2 c =
-    c .before .before .before .before .before .before .before .walk-in .kept .1 .0 ∙ c .before .before .before .before .before .before .before .before .before .before .before .before .before .before .before .before .before .before .before .before .before .fetch .kept .0 ∙ c .before .before .before .before .before .before .before .before .before .before .before .before .before .before .before .before .before .before .before .before .before .before .before .before .before .before .before .before .before .before .before .before .before .before .lay-keys .ensures .keys .len
+    c .before .before .before .before .before .before .before .walk-in .kept .1 .0 ∙ c .before .before .before .before .before .before .before .before .before .before .before .before .before .before .before .before .before .before .before .before .before .fetch .kept .0
 
 returns : tie.Need-returns
 returns c = search needs
@@ -240,7 +228,6 @@ follow-counted-spec =
     mul-sight-of
     slice-read-sight-of
     sight-of-requires
-    lay-keys-requires
     mul-base
     sub-states-fitting
     mul-states-fitting

@@ -10,7 +10,7 @@ use Rattle.theory.specs.BestWalks.{under}
 use Rattle.headings.proofs.Trails.{index-within, within-less, within-few, index-there}
 use Rattle.tracing.proofs.Inward.{Inward, inward-far}
 use Rattle.tracing.proofs.Modes.{key-read}
-use Rattle.tracing.proofs.Sighting.{sight-lines, sight-across, sight-formed, sight-sound, sight-states-few, sight-kept}
+use Rattle.tracing.proofs.Sighting.{sight-lines, sight-across, sight-formed, sight-sound, sight-states-few, sight-kept, keys-laid}
 use Rattle.tracing.proofs.Nearing.{placeOf, stand-row, stand-on}
 use Rattle.tracing.proofs.Walking.{kept-fetched, top-held, top-fits, stand-wanted, stand-some, walk-on, walk-ends}
 use Rattle.tracing.proofs.follow.walk_in.Statement.{statement}
@@ -251,9 +251,14 @@ returns c =
     let s = c .before .before .before .before .before .before .before .before in
     let a = s .args in
     let l = c .before .loop in
+    let ends =
     walk-ends (a .scan) (a .backwards) (a .plate .now) (getD (a .path .now) (a .walk .start) 0) (a .sight) (s .pre .0 .0) (s .pre .1 .1 .1 .0 .1) (s .pre .0 .2) (a .walk .key)
     (s .pre .0 .3) (a .path .now) (a .walk .start) (a .walk .steps) (a .walk .gaps) (s .pre .1 .1 .0) (l .path) (l .stand) (l .n) (omega (arith, c .loop-test .left)) (l .inv .6)
-    refl (l .inv .7)
+    refl (l .inv .7) in
+    let laid =
+    keys-laid (a .scan) (s .pre .0 .0) (a .backwards) (getD (a .path .now) (a .walk .start) 0) (a .sight) (s .pre .1 .1 .1 .0 .1) (a .plate .now) (l .work) (s .pre .0 .2)
+    (l .inv .5 .keys) in
+    (ends .0, (ends .1 .0, (ends .1 .1, laid)))
 
 pub walk-in-spec : {M : Type 1} → statement M
 walk-in-spec =

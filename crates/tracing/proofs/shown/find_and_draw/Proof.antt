@@ -51,11 +51,8 @@ draw-requires c κs =
       r .ensures .0,
       (
         (clear-plate (a .width) (a .height) (a .setting) (length (a .plate .now)) (a .x) (length (a .path .now)) (length (a .work .now)) (s .pre .0) ∙ sym n, omega (arith, room, f .kept .0), omega (arith, clear-path (a .width) (a .height) (a .setting) (length (a .plate .now)) (a .x) (length (a .path .now)) (length (a .work .now)) (s .pre .0), long, r .ensures .1 .is-steps)),
-        (
-          f .ensures .1,
-          scan-attained (r .result) (a .width) (a .height) (a .setting) (f .result .index) (r .ensures .0) (r .ensures .1) long (a .plate .now) (a .x) (f .result .key) (f .result .before) (f .result .gaps)
-              (f .ensures .0 .attained),
-        ),
+        scan-attained (r .result) (a .width) (a .height) (a .setting) (f .result .index) (r .ensures .0) (r .ensures .1) long (a .plate .now) (a .x) (f .result .key) (f .result .before) (f .result .gaps)
+            (f .ensures .0 .attained),
       ),
     )
 
