@@ -1,3 +1,4 @@
+pub mod TurnedLaws
 pub mod RunLaws
 pub mod PlaneLaws
 pub mod RowLaws

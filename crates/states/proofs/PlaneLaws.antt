@@ -1,14 +1,15 @@
 -- Laws of lists with planes: place X of plane j of a row that begins at a slot is slot + (j · pitch + X). What is written in one plane leaves the
 -- others as they are, so that the planes written grow by one.
 use Prim.Native.Nat.{ℕ, _+_, _-_, _*_, _≤_, _<_}
-use mathlib.Core.Path.{_≡_, refl, ap, _∙_, subst}
+use mathlib.Core.Path.{_≡_, refl, sym, ap, _∙_, subst}
 use mathlib.Core.Logic.{_⊎_, inl, inr}
 use mathlib.Core.List.{List}
 use native.Mathlib.Omega.{arith}
 use lib.ListN.{length, getD, set, length-set}
 use lib.Seq.{getD-set-same, getD-set-other}
 use Rattle.basics.proofs.Numbers.{le-or-lt, rows-fit}
-use Rattle.states.specs.Runs.{Between, Apart}
+use Rattle.states.specs.Runs.{Between, Apart, turned, numbers}
+use Rattle.states.proofs.TurnedLaws.{numbers-length, numbers-set}
 
 -- ---- lists that are alike but for a stretch
 
@@ -95,6 +96,22 @@ plane-pair old slot base pitch a b p q v ep eq ab fits l =
 
     kept : (k : ℕ) → (k ≡ p → ⊥) → (k ≡ q → ⊥) → getD (set (set old p v) q v) k 0 ≡ getD old k 0
     kept k m n = other k n ∙ getD-set-other old p k v 0 m
+
+-- by two stores of what stands for it
+pub turned-pair :
+    (old : List ℕ) (slot base pitch a b p q w v : ℕ) →
+    turned w ≡ v →
+    p ≡ slot + (base + a) →
+    q ≡ slot + (base + b) →
+    a < b →
+    b < pitch →
+    q < length old →
+    Plane (Either a b) (λ X. v) (numbers old) (numbers (set (set old p w) q w)) slot base pitch
+turned-pair old slot base pitch a b p q w v e ep eq ab fits l =
+    subst (λ (xs : List ℕ). Plane (Either a b) (λ X. v) (numbers old) xs slot base pitch)
+    (sym (numbers-set (set old p w) q w ∙ ap (λ (xs : List ℕ). set xs q (turned w)) (numbers-set old p w)
+    ∙ ap (λ (u : ℕ). set (set (numbers old) p u) q u) e))
+    (plane-pair (numbers old) slot base pitch a b p q v ep eq ab fits (omega (arith, numbers-length old)))
 
 -- ---- the planes below `past`
 

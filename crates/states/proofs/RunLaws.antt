@@ -7,7 +7,8 @@ use native.Mathlib.Nat.{eq-or-lt-of-le}
 use native.Mathlib.Omega.{arith}
 use lib.ListN.{length, getD, set, length-set}
 use lib.Seq.{getD-set-same, getD-set-other}
-use Rattle.states.specs.Runs.{Between, TapsFit, greatestAt}
+use Rattle.states.specs.Runs.{Between, TapsFit, greatestAt, turned, numbers}
+use Rattle.states.proofs.TurnedLaws.{numbers-length, numbers-set}
 
 -- ---- one run
 
@@ -33,6 +34,19 @@ between-more f old new lo hi n v b o l e s =
       over = λ k h. getD-set-other new hi k v 0 (λ z. omega arith) ∙ b .over k (omega arith);
       len = length-set new hi v ∙ b .len;
     }
+
+-- the same where what is written is turned
+pub numbers-more :
+    (f : ℕ → ℕ) (old new : List ℕ) (lo hi n v : ℕ) →
+    Between f (numbers old) (numbers new) lo hi →
+    lo ≤ hi →
+    hi < length old →
+    turned v ≡ f hi →
+    n ≡ hi + 1 →
+    Between f (numbers old) (numbers (set new hi v)) lo n
+numbers-more f old new lo hi n v b o l e s =
+    subst (λ (xs : List ℕ). Between f (numbers old) xs lo n) (sym (numbers-set new hi v))
+    (between-more f (numbers old) (numbers new) lo hi n (turned v) b o (omega (arith, numbers-length old)) e s)
 
 pub between-ends : (f : ℕ → ℕ) (old new : List ℕ) (lo hi n : ℕ) → Between f old new lo hi → hi ≡ n → Between f old new lo n
 between-ends f old new lo hi n b e = subst (λ (m : ℕ). Between f old new lo m) e b
@@ -64,32 +78,33 @@ greatest-clear f old new t0 t1 t2 to n size x b fit m =
       read-clear f old new to (to + x) t2 n x b (omega arith) (fit .clear2) m,
     )
 
--- a run of blends, each made of its place x and the greatest of the three, grows by one, and so does the run of the greatest
+-- a run of blends, each made of its place x and the greatest of the three, grows by one, and so does the run of the greatest; all are held turned
 module _ (old new : List ℕ) (t0 t1 t2 to n x m : ℕ) (fit : TapsFit t0 t1 t2 to n (length old)) (l : x < n) where
+  still : (f : ℕ → ℕ) → Between f (numbers old) (numbers new) to (to + x) → turned m ≡ greatestAt (numbers new) t0 t1 t2 x →
+      turned m ≡ greatestAt (numbers old) t0 t1 t2 x
+  still f b em = em ∙ greatest-clear f (numbers old) (numbers new) t0 t1 t2 to n (length old) x b fit l
+
   pub blend-more :
       (h : ℕ → ℕ → ℕ) (v : ℕ) →
-      Between (λ k. h (k - to) (greatestAt old t0 t1 t2 (k - to))) old new to (to + x) →
-      m ≡ greatestAt new t0 t1 t2 x →
-      v ≡ h x m →
-      Between (λ k. h (k - to) (greatestAt old t0 t1 t2 (k - to))) old (set new (to + x) v) to (to + (x + 1))
+      Between (λ k. h (k - to) (greatestAt (numbers old) t0 t1 t2 (k - to))) (numbers old) (numbers new) to (to + x) →
+      turned m ≡ greatestAt (numbers new) t0 t1 t2 x →
+      turned v ≡ h x (turned m) →
+      Between (λ k. h (k - to) (greatestAt (numbers old) t0 t1 t2 (k - to))) (numbers old) (numbers (set new (to + x) v)) to (to + (x + 1))
   blend-more h v b em ev =
       let here : x ≡ to + x - to = omega arith in
-      between-more _ old new to (to + x) (to + (x + 1)) v b (omega arith) (omega (arith, fit .in-to))
-      (ev ∙ ap (h x) (em ∙ greatest-clear _ old new t0 t1 t2 to n (length old) x b fit l)
-      ∙ ap (λ (i : ℕ). h i (greatestAt old t0 t1 t2 i)) here)
+      numbers-more _ old new to (to + x) (to + (x + 1)) v b (omega arith) (omega (arith, fit .in-to))
+      (ev ∙ ap (h x) (still _ b em) ∙ ap (λ (i : ℕ). h i (greatestAt (numbers old) t0 t1 t2 i)) here)
       (omega arith)
 
   pub greatest-more :
       (f : ℕ → ℕ) (under under′ : List ℕ) →
-      Between f old new to (to + x) →
-      Between (λ k. greatestAt old t0 t1 t2 k) under under′ 0 x →
+      Between f (numbers old) (numbers new) to (to + x) →
+      Between (λ k. greatestAt (numbers old) t0 t1 t2 k) (numbers under) (numbers under′) 0 x →
       n ≤ length under →
-      m ≡ greatestAt new t0 t1 t2 x →
-      Between (λ k. greatestAt old t0 t1 t2 k) under (set under′ x m) 0 (x + 1)
+      turned m ≡ greatestAt (numbers new) t0 t1 t2 x →
+      Between (λ k. greatestAt (numbers old) t0 t1 t2 k) (numbers under) (numbers (set under′ x m)) 0 (x + 1)
   greatest-more f under under′ b u o em =
-      between-more _ under under′ 0 x (x + 1) m u (omega arith) (omega arith)
-      (em ∙ greatest-clear f old new t0 t1 t2 to n (length old) x b fit l)
-      refl
+      numbers-more _ under under′ 0 x (x + 1) m u (omega arith) (omega arith) (still f b em) refl
 
 -- what the calls of a higher plane make
 pub next-of : (v w k g b b₀ : ℕ) → v ≡ max w b → w ≡ min k g → b ≡ b₀ → v ≡ max (min k g) b₀

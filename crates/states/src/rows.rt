@@ -1,20 +1,22 @@
 // One row, with all its planes: held, made of held ones, put into a state, joined with one of another
-// state. A held row has pixel x at x + 1 of each plane, and a zero before and after its pixels.
+// state. A held row has pixel x at x + 1 of each plane, and a zero before and after its pixels; its numbers
+// are turned (runs.rt).
 ghost use mathlib.Core.Path.{_≡_};
 ghost use Prim.Native.Nat.{ℕ, _+_, _-_, _*_, _≤_, _<_};
 ghost use lib.ListN.{length, getD};
-ghost use Rattle.states.specs.Runs.{Apart};
+ghost use Rattle.states.specs.Runs.{Apart, numbers};
 ghost use Rattle.plans.specs.Plans.{pitchOf, blockOf, rowSize, startsAt};
 ghost use Rattle.states.specs.Rows.{gate, RowPut, RowHeld, RowStored, RowJoined, RowOf, SlotOf, TapsOf, Started, blended};
 ghost use Rattle.theory.specs.BestWalks.{alone};
+use crate::runs::NOTHING;
 use crate::runs::Taps;
 use crate::runs::blend_first;
 use crate::runs::blend_next;
 use crate::runs::blend_sole;
-use crate::runs::copy_run;
 use crate::runs::fill_run;
 use crate::runs::fold_run;
 use crate::runs::raise_run;
+use crate::runs::turn_run;
 use plans::MARGIN;
 use plans::Plan;
 use plans::Row;
@@ -22,14 +24,14 @@ use plans::Row;
 // A zero before and after the pixels of a row.
 fn guard(held: &mut [u16], slot: usize, plan: Plan, row: Row)
     requires { ⌜ (RowOf plan row) × (SlotOf plan slot (length (now held))) ⌝ }
-    ensures { λ _. ⌜ ((f : ℕ → ℕ → ℕ) → RowPut (now (held .entry)) slot (plan .planes) (pitchOf plan) (row .lo) (row .hi) f → RowHeld (now (held .exit)) slot (plan .planes) (pitchOf plan) (row .lo) (row .hi) f) ⌝ }
-    ensures { λ _. ⌜ Apart (now (held .entry)) (now (held .exit)) slot (slot + blockOf plan) ⌝ }
+    ensures { λ _. ⌜ ((f : ℕ → ℕ → ℕ) → RowPut (numbers (now (held .entry))) slot (plan .planes) (pitchOf plan) (row .lo) (row .hi) f → RowHeld (numbers (now (held .exit))) slot (plan .planes) (pitchOf plan) (row .lo) (row .hi) f) ⌝ }
+    ensures { λ _. ⌜ Apart (numbers (now (held .entry))) (numbers (now (held .exit))) slot (slot + blockOf plan) ⌝ }
 {
     let mut j = 0;
     let mut at = slot;
     while j < plan.planes {
-        held[at + row.lo] = 0;
-        held[at + row.hi + 1] = 0;
+        held[at + row.lo] = NOTHING;
+        held[at + row.hi + 1] = NOTHING;
         j += 1;
         at += plan.across + MARGIN;
     }
@@ -38,14 +40,14 @@ fn guard(held: &mut [u16], slot: usize, plan: Plan, row: Row)
 // The row of a state that begins at `at` is held at a slot.
 pub(crate) fn load_row(held: &mut [u16], slot: usize, work: &[u16], at: usize, plan: Plan, row: Row)
     requires { ⌜ (RowOf plan row) × (SlotOf plan slot (length (now held))) × (at + rowSize plan ≤ length (now work)) ⌝ }
-    ensures { λ _. ⌜ RowHeld (now (held .exit)) slot (plan .planes) (pitchOf plan) (row .lo) (row .hi) (λ (j x : ℕ). getD (now (work .entry)) (at + (j * plan .across + x)) 0) ⌝ }
-    ensures { λ _. ⌜ Apart (now (held .entry)) (now (held .exit)) slot (slot + blockOf plan) ⌝ }
+    ensures { λ _. ⌜ RowHeld (numbers (now (held .exit))) slot (plan .planes) (pitchOf plan) (row .lo) (row .hi) (λ (j x : ℕ). getD (now (work .entry)) (at + (j * plan .across + x)) 0) ⌝ }
+    ensures { λ _. ⌜ Apart (numbers (now (held .entry))) (numbers (now (held .exit))) slot (slot + blockOf plan) ⌝ }
 {
     let mut j = 0;
     let mut to = slot + 1 + row.lo;
     let mut from = at + row.lo;
     while j < plan.planes {
-        copy_run(held, to, work, from, row.hi - row.lo);
+        turn_run(held, to, work, from, row.hi - row.lo);
         j += 1;
         to += plan.across + MARGIN;
         from += plan.across;
@@ -63,14 +65,14 @@ pub(crate) fn store_row(
     row: Row,
 )
     requires { ⌜ (RowOf plan row) × (SlotOf plan slot (length (now held))) × (at + rowSize plan ≤ length (now work)) ⌝ }
-    ensures { λ _. ⌜ ((f : ℕ → ℕ → ℕ) → RowHeld (now (held .entry)) slot (plan .planes) (pitchOf plan) (row .lo) (row .hi) f → RowStored (now (work .exit)) at (plan .planes) (plan .across) (row .lo) (row .hi) f) ⌝ }
+    ensures { λ _. ⌜ ((f : ℕ → ℕ → ℕ) → RowHeld (numbers (now (held .entry))) slot (plan .planes) (pitchOf plan) (row .lo) (row .hi) f → RowStored (now (work .exit)) at (plan .planes) (plan .across) (row .lo) (row .hi) f) ⌝ }
     ensures { λ _. ⌜ Apart (now (work .entry)) (now (work .exit)) at (at + rowSize plan) ⌝ }
 {
     let mut j = 0;
     let mut to = at + row.lo;
     let mut from = slot + 1 + row.lo;
     while j < plan.planes {
-        copy_run(work, to, held, from, row.hi - row.lo);
+        turn_run(work, to, held, from, row.hi - row.lo);
         j += 1;
         to += plan.across;
         from += plan.across + MARGIN;
@@ -91,11 +93,11 @@ fn start_run(
 )
     requires { ⌜ (1 ≤ plan .planes) × (plan .planes ≤ 9) × (plan .across ≤ 1024) × (first ≤ past) × (past ≤ plan .across) ⌝ }
     requires { ⌜ (SlotOf plan slot (length (now held))) × (at + plan .across ≤ length (now keys)) ⌝ }
-    ensures { λ _. ⌜ Started (now (held .entry)) (now (held .exit)) (λ (x : ℕ). getD (now (keys .entry)) (at + x) 0) slot plan first past ⌝ }
+    ensures { λ _. ⌜ Started (numbers (now (held .entry))) (numbers (now (held .exit))) (λ (x : ℕ). getD (now (keys .entry)) (at + x) 0) slot plan first past ⌝ }
 {
     let n = past - first;
     let start = at + first;
-    copy_run(held, slot + 1 + first, keys, start, n);
+    turn_run(held, slot + 1 + first, keys, start, n);
     let mut j = 1;
     let mut to = slot + 1 + first + (plan.across + MARGIN);
     while j < plan.planes {
@@ -108,10 +110,10 @@ fn start_run(
 // The walks of no steps at the pixels of a row where a walk may start, and zeros elsewhere.
 pub(crate) fn start_row(held: &mut [u16], slot: usize, keys: &[u16], plan: Plan, row: Row, m: usize)
     requires { ⌜ (RowOf plan row) × (SlotOf plan slot (length (now held))) × (row .at + plan .across ≤ length (now keys)) ⌝ }
-    ensures { λ _. ⌜ RowHeld (now (held .exit)) slot (plan .planes) (pitchOf plan) (row .lo) (row .hi) (λ (j x : ℕ). gate (startsAt plan m x) (alone (plan .slack) (getD (now (keys .entry)) (row .at + x) 0) j)) ⌝ }
-    ensures { λ _. ⌜ Apart (now (held .entry)) (now (held .exit)) slot (slot + blockOf plan) ⌝ }
+    ensures { λ _. ⌜ RowHeld (numbers (now (held .exit))) slot (plan .planes) (pitchOf plan) (row .lo) (row .hi) (λ (j x : ℕ). gate (startsAt plan m x) (alone (plan .slack) (getD (now (keys .entry)) (row .at + x) 0) j)) ⌝ }
+    ensures { λ _. ⌜ Apart (numbers (now (held .entry))) (numbers (now (held .exit))) slot (slot + blockOf plan) ⌝ }
 {
-    fill_run(held, slot, plan.planes * (plan.across + MARGIN), 0);
+    fill_run(held, slot, plan.planes * (plan.across + MARGIN), NOTHING);
     if plan.lone {
         if m > 0 {
             return;
@@ -161,8 +163,8 @@ pub(crate) fn blend_row(
 )
     requires { ⌜ (RowOf plan row) × (TapsOf plan (taps .t0) (taps .t1) (taps .t2) (taps .to) (length (now held))) ⌝ }
     requires { ⌜ (row .at + plan .across ≤ length (now keys)) × (plan .across + 7 ≤ length (now below)) × (length (now held) ≤ 40000) ⌝ }
-    ensures { λ _. ⌜ RowHeld (now (held .exit)) (taps .to - 1) (plan .planes) (pitchOf plan) (row .lo) (row .hi) (blended (now (held .entry)) (pitchOf plan) (taps .t0) (taps .t1) (taps .t2) (λ (x : ℕ). getD (now (keys .entry)) (row .at + x) 0)) ⌝ }
-    ensures { λ _. ⌜ Apart (now (held .entry)) (now (held .exit)) (taps .to - 1) (taps .to - 1 + blockOf plan) ⌝ }
+    ensures { λ _. ⌜ RowHeld (numbers (now (held .exit))) (taps .to - 1) (plan .planes) (pitchOf plan) (row .lo) (row .hi) (blended (numbers (now (held .entry))) (pitchOf plan) (taps .t0) (taps .t1) (taps .t2) (λ (x : ℕ). getD (now (keys .entry)) (row .at + x) 0)) ⌝ }
+    ensures { λ _. ⌜ Apart (numbers (now (held .entry))) (numbers (now (held .exit))) (taps .to - 1) (taps .to - 1 + blockOf plan) ⌝ }
 {
     let at = row.at + row.lo;
     let n = run_of(row, keys.len() - at);
@@ -181,8 +183,8 @@ pub(crate) fn blend_row(
 pub(crate) fn blend_sole_row(held: &mut [u16], keys: &[u16], plan: Plan, row: Row, taps: Taps)
     requires { ⌜ (RowOf plan row) × (TapsOf plan (taps .t0) (taps .t1) (taps .t2) (taps .to) (length (now held))) ⌝ }
     requires { ⌜ (row .at + plan .across ≤ length (now keys)) × (plan .planes ≡ 1) × (length (now held) ≤ 40000) ⌝ }
-    ensures { λ _. ⌜ RowHeld (now (held .exit)) (taps .to - 1) (plan .planes) (pitchOf plan) (row .lo) (row .hi) (blended (now (held .entry)) (pitchOf plan) (taps .t0) (taps .t1) (taps .t2) (λ (x : ℕ). getD (now (keys .entry)) (row .at + x) 0)) ⌝ }
-    ensures { λ _. ⌜ Apart (now (held .entry)) (now (held .exit)) (taps .to - 1) (taps .to - 1 + blockOf plan) ⌝ }
+    ensures { λ _. ⌜ RowHeld (numbers (now (held .exit))) (taps .to - 1) (plan .planes) (pitchOf plan) (row .lo) (row .hi) (blended (numbers (now (held .entry))) (pitchOf plan) (taps .t0) (taps .t1) (taps .t2) (λ (x : ℕ). getD (now (keys .entry)) (row .at + x) 0)) ⌝ }
+    ensures { λ _. ⌜ Apart (numbers (now (held .entry))) (numbers (now (held .exit))) (taps .to - 1) (taps .to - 1 + blockOf plan) ⌝ }
 {
     let at = row.at + row.lo;
     let n = run_of(row, keys.len() - at);
@@ -203,7 +205,7 @@ pub(crate) fn join_row(
     row: Row,
 )
     requires { ⌜ (RowOf plan row) × (SlotOf plan slot (length (now held))) × (at + rowSize plan ≤ length (now work)) × (row .at + plan .across ≤ length (now best)) ⌝ }
-    ensures { λ _. ⌜ ((f g : ℕ → ℕ → ℕ) → RowHeld (now (held .entry)) slot (plan .planes) (pitchOf plan) (row .lo) (row .hi) f → RowStored (now (work .entry)) at (plan .planes) (plan .across) (row .lo) (row .hi) g → RowJoined (now (best .entry)) (now (best .exit)) (row .at) (plan .planes) (row .lo) (row .hi) f g) ⌝ }
+    ensures { λ _. ⌜ ((f g : ℕ → ℕ → ℕ) → RowHeld (numbers (now (held .entry))) slot (plan .planes) (pitchOf plan) (row .lo) (row .hi) f → RowStored (now (work .entry)) at (plan .planes) (plan .across) (row .lo) (row .hi) g → RowJoined (now (best .entry)) (now (best .exit)) (row .at) (plan .planes) (row .lo) (row .hi) f g) ⌝ }
 {
     let n = row.hi - row.lo;
     let to = row.at + row.lo;

@@ -7,7 +7,7 @@ ghost use mathlib.Core.Bool.{false};
 ghost use mathlib.Core.Logic.{_⊎_};
 ghost use Prim.Native.Nat.{_+_, _-_, _*_, _≤_, _<_};
 ghost use lib.ListN.{length};
-ghost use Rattle.states.specs.Runs.{Apart};
+ghost use Rattle.states.specs.Runs.{Apart, numbers};
 ghost use Rattle.plans.specs.Plans.{Sound, rowsIn, rowLo, rowHi, rowAt, stateSize, keysSize, blockOf, halfOf, halfWith, starts};
 ghost use Rattle.states.specs.States.{Advanced, Joined, furtherIn};
 ghost use Rattle.states.specs.Holding.{Slotted, Halves, MadeRow, NextRows, LastRow, tapOf};
@@ -17,6 +17,7 @@ use crate::rows::join_row;
 use crate::rows::load_row;
 use crate::rows::start_row;
 use crate::rows::store_row;
+use crate::runs::NOTHING;
 use crate::runs::Taps;
 use crate::runs::fill_run;
 use plans::MARGIN;
@@ -117,14 +118,14 @@ fn hold_last(
 )
     requires { ⌜ Sound plan ⌝ }
     requires { ⌜ (e < 65536) × (m < rowsIn plan e) × (slot + (halfOf plan - blockOf plan) ≤ length (now held)) × (from + stateSize plan ≤ length (now work)) ⌝ }
-    ensures { λ _. ⌜ LastRow plan e m (now (work .entry)) from (now (held .exit)) slot ⌝ }
-    ensures { λ _. ⌜ Apart (now (held .entry)) (now (held .exit)) slot (slot + (halfOf plan - blockOf plan)) ⌝ }
+    ensures { λ _. ⌜ LastRow plan e m (now (work .entry)) from (numbers (now (held .exit))) slot ⌝ }
+    ensures { λ _. ⌜ Apart (numbers (now (held .entry))) (numbers (now (held .exit))) slot (slot + (halfOf plan - blockOf plan)) ⌝ }
 {
     if !plan.linked {
         return;
     }
     if e == 0 {
-        fill_run(held, slot, plan.planes * (plan.across + MARGIN), 0);
+        fill_run(held, slot, plan.planes * (plan.across + MARGIN), NOTHING);
     } else {
         let row = row_in(plan, e - 1, m);
         let at = from + m * (plan.planes * plan.across);
@@ -145,7 +146,7 @@ fn make_row(
     requires { ⌜ Sound plan ⌝ }
     requires { ⌜ (e < 65536) × (m < rowsIn plan e) × (keysSize plan ≤ length (now work)) ⌝ }
     requires { ⌜ (Slotted plan slots (length (now held))) × (plan .across + 7 ≤ length (now below)) ⌝ }
-    ensures { λ _. ⌜ MadeRow plan e m (now (work .entry)) slots (now (held .entry)) (now (held .exit)) ⌝ }
+    ensures { λ _. ⌜ MadeRow plan e m (now (work .entry)) slots (numbers (now (held .entry))) (numbers (now (held .exit))) ⌝ }
     ensures { λ _. ⌜ length (now (below .exit)) ≡ length (now (below .entry)) ⌝ }
 {
     let row = row_in(plan, e, m);
@@ -180,7 +181,7 @@ fn next_rows(
     requires { ⌜ (Sound plan) × (states .first < states .past) × (states .past ≤ 65536) ⌝ }
     requires { ⌜ (m < rowsIn plan (states .past - 1)) × (keysSize plan ≤ length (now work)) ⌝ }
     requires { ⌜ (Halves plan (furtherIn states) slots (length (now held))) × (plan .across + 7 ≤ length (now below)) ⌝ }
-    ensures { λ _. ⌜ NextRows plan (states .first) (states .past) m (now (work .entry)) slots (now (held .entry)) (now (held .exit)) ⌝ }
+    ensures { λ _. ⌜ NextRows plan (states .first) (states .past) m (now (work .entry)) slots (numbers (now (held .entry))) (numbers (now (held .exit))) ⌝ }
     ensures { λ _. ⌜ length (now (below .exit)) ≡ length (now (below .entry)) ⌝ }
 {
     let block = plan.planes * (plan.across + MARGIN);
@@ -216,7 +217,7 @@ pub(crate) fn make_states(
     let e = states.past - 1;
     let half = half_with(plan, e - first);
     let last = half - plan.planes * (plan.across + MARGIN);
-    fill_run(held, 0, half, 0);
+    fill_run(held, 0, half, NOTHING);
     let mut slots = Slots { was: 0, now: half };
     let rows = rows_in(plan, e);
     let mut at = to;
@@ -261,7 +262,7 @@ pub(crate) fn make_joined(
     let e = states.past - 1;
     let half = half_with(plan, e - first);
     let last = half - plan.planes * (plan.across + MARGIN);
-    fill_run(held, 0, half, 0);
+    fill_run(held, 0, half, NOTHING);
     let mut slots = Slots { was: 0, now: half };
     let size = plan.planes * plan.across;
     let mut at = ends + plan.rows * size;

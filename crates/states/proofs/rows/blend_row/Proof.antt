@@ -6,6 +6,7 @@ use mathlib.Core.List.{List}
 use native.Mathlib.Omega.{arith}
 use lib.ListN.{getD, length}
 use Rattle.plans.specs.Plans.{pitchOf}
+use Rattle.states.specs.Runs.{numbers}
 use Rattle.states.specs.Rows.{blended}
 use Rattle.plans.proofs.PlanSizes.{plane-fits}
 use Rattle.states.proofs.PlaneLaws.{apart-then}
@@ -23,8 +24,8 @@ Inv-loop held₀ below₀ keys plan row taps at n run₀ j₀ held below run j =
     × (length held ≡ length held₀)
     × (length below ≡ length below₀)
     × ((old : List ℕ) →
-    Blending old held₀ below₀ (λ (x : ℕ). getD keys (row .at + x) 0) plan (taps .t0) (taps .t1) (taps .t2) (taps .to) (row .lo) n 1 →
-    Blending old held below (λ (x : ℕ). getD keys (row .at + x) 0) plan (taps .t0) (taps .t1) (taps .t2) (taps .to) (row .lo) n j)
+    Blending old (numbers held₀) (numbers below₀) (λ (x : ℕ). getD keys (row .at + x) 0) plan (taps .t0) (taps .t1) (taps .t2) (taps .to) (row .lo) n 1 →
+    Blending old (numbers held) (numbers below) (λ (x : ℕ). getD keys (row .at + x) 0) plan (taps .t0) (taps .t1) (taps .t2) (taps .to) (row .lo) n j)
 
 abbrev μ-loop : tie.MeasureT-loop
 μ-loop held₀ below₀ keys plan row taps at n run₀ j₀ held below run j = plan .planes - j
@@ -79,12 +80,12 @@ blend-next-requires c κs =
     let s = d .before .before .before .before .before .before .before .before .before .before .before .before .before .before in
     let r = d .before .before .before .before .before .before .before .before .before .run-of .ensures in
     let v = d .loop .inv in
-    let f = d .before .before .before .before .before .blend-first .ensures in (
+    let f = d .before .before .before .before .before .blend-first in (
       taps-fit (s .args .plan) _ _ _ _ _ (s .args .row .lo) _ (d .loop .j) _ _ _ _ (s .pre .0 .1) (omega (arith, s .pre .0 .0, r)) (c .before .before .before .before .if1 .taken)
           (taps-next _ _ _ _ _ _ _ _ _ _ _ _ _ _ _ (v .2) (c .before .before .higher2 .ensures))
           _
-          (v .3 ∙ f .0 .len),
-      omega (arith, s .pre .0 .0, s .pre .1, r, v .4, f .1 .len),
+          (v .3 ∙ f .kept .0),
+      omega (arith, s .pre .0 .0, s .pre .1, r, v .4, f .kept .1 .0),
     )
 
 add-j : tie.Need-add-j Inv-loop μ-loop
@@ -105,8 +106,8 @@ loop-again c =
       omega arith,
       omega (arith, left),
       taps-on _ _ _ _ _ _ _ _ _ _ _ t,
-      b .0 .len ∙ v .3,
-      b .1 .len ∙ v .4,
+      c .before .before .before .before .blend-next .kept .0 ∙ v .3,
+      c .before .before .before .before .blend-next .kept .1 .0 ∙ v .4,
       λ old made.
           blending-next (s .args .plan) _ _ _ _ _ (s .args .row .lo) _ _ _ _ _ (s .args .keys .now) old (s .args .row .at) _ (s .pre .0 .1)
           (omega (arith, s .pre .0 .0, room)) refl _ _ _ _ (d .loop .j) left t (v .5 old made) (b .0) (b .1),
@@ -119,13 +120,13 @@ guard-requires : tie.Need-guard-requires Inv-loop μ-loop
 guard-requires c κs =
     let d = c .before .before .before .before in
     let s = d .before .before .before .before .before .before .before .before .before .before .before .before .before .before in
-    (s .pre .0 .0, omega (arith, s .pre .0 .1 .in-to, s .pre .0 .1 .some, d .loop .inv .3, d .before .before .before .before .before .blend-first .ensures .0 .len))
+    (s .pre .0 .0, omega (arith, s .pre .0 .1 .in-to, s .pre .0 .1 .some, d .loop .inv .3, d .before .before .before .before .before .blend-first .kept .0))
 
 same-length : tie.Need-same-length Inv-loop μ-loop
-same-length c = let d = c .before .before .before .before .before .before .before in c .before .before .guard .ensures .1 .len ∙ d .loop .inv .3 ∙ d .before .before .before .before .before .blend-first .ensures .0 .len
+same-length c = let d = c .before .before .before .before .before .before .before in c .before .before .guard .kept .0 ∙ d .loop .inv .3 ∙ d .before .before .before .before .before .blend-first .kept .0
 
 same-length-2 : tie.Need-same-length-2 Inv-loop μ-loop
-same-length-2 c = let d = c .before .before .before .before .before .before .before in d .loop .inv .4 ∙ d .before .before .before .before .before .blend-first .ensures .1 .len
+same-length-2 c = let d = c .before .before .before .before .before .before .before in d .loop .inv .4 ∙ d .before .before .before .before .before .blend-first .kept .1 .0
 
 returns : tie.Need-returns Inv-loop μ-loop
 returns c =
@@ -136,7 +137,7 @@ returns c =
     let g = c .before .before .guard .ensures in
     let p = s .args .plan in
     let t = s .args .taps in
-    let entry = s .args .held .now in
+    let entry = numbers (s .args .held .now) in
     let keys = s .args .keys .now in
     let made = blending-first p _ _ _ _ _ (s .args .row .lo) _ _ _ _ _ keys entry (s .args .row .at) _ (s .pre .0 .1) (omega (arith, s .pre .0 .0, r)) refl
     _ _ _ (omega (arith, s .pre .0 .0)) (taps-first _ _ _ _ _ _ _ _ _ _ (d .before .before .before .before .before .before .before .before .higher .ensures)) (f .0) (f .1) in

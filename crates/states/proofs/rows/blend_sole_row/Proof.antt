@@ -5,6 +5,7 @@ use native.Mathlib.Omega.{arith}
 use borrow.Author.Needs.{needs}
 use lib.ListN.{getD}
 use Rattle.plans.specs.Plans.{pitchOf}
+use Rattle.states.specs.Runs.{numbers}
 use Rattle.states.specs.Rows.{blended}
 use Rattle.states.proofs.PlaneLaws.{apart-then}
 use Rattle.states.proofs.RowLaws.{row-put}
@@ -50,7 +51,7 @@ returns c =
     let g = c .before .before .guard .ensures in
     let p = s .args .plan in
     let t = s .args .taps in
-    let entry = s .args .held .now in
+    let entry = numbers (s .args .held .now) in
     let keys = s .args .keys .now in
     let all = plane-sole p _ _ _ _ _ (s .args .row .lo) _ _ _ _ _ keys entry (s .args .row .at) _ (s .pre .0 .1) (omega (arith, s .pre .0 .0, r)) refl
     _ (s .pre .1 .1) (taps-first _ _ _ _ _ _ _ _ _ _ (c .before .before .before .before .before .before .before .before .higher .ensures)) f in

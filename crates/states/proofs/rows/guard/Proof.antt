@@ -1,13 +1,15 @@
 -- `guard` meets its contract: plane by plane, the two zeros stand.
 use Prim.Native.Nat.{ℕ, _+_, _-_, _*_, _≤_}
-use mathlib.Core.Path.{_≡_}
+use mathlib.Core.Path.{_≡_, refl, _∙_}
 use mathlib.Core.Logic.{inl, inr}
 use native.Mathlib.Nat.{add-mul}
 use native.Mathlib.Omega.{arith}
-use lib.ListN.{length-set}
+use lib.ListN.{length, set, length-set}
 use Rattle.plans.specs.Plans.{pitchOf}
 use Rattle.plans.proofs.PlanSizes.{plane-fits}
-use Rattle.states.proofs.PlaneLaws.{Either, Planes, planes-none, planes-more, planes-ends, plane-pair}
+use Rattle.states.specs.Runs.{numbers}
+use Rattle.states.proofs.TurnedLaws.{turned-high}
+use Rattle.states.proofs.PlaneLaws.{Either, Planes, planes-none, planes-more, planes-ends, turned-pair}
 use Rattle.states.proofs.RowLaws.{guarded}
 use Rattle.states.proofs.rows.guard.Statement.{statement}
 use Rattle.states.proofs.rows.guard.Tie as tie
@@ -16,13 +18,14 @@ abbrev Inv-loop : tie.InvT-loop
 Inv-loop held₀ slot plan row j₀ at₀ held j at =
     (j ≤ plan .planes)
     × (at ≡ slot + j * pitchOf plan)
-    × Planes (Either (row .lo) (row .hi + 1)) (λ (i X : ℕ). 0) held₀ held slot (pitchOf plan) j
+    × Planes (Either (row .lo) (row .hi + 1)) (λ (i X : ℕ). 0) (numbers held₀) (numbers held) slot (pitchOf plan) j
+    × (length held ≡ length held₀)
 
 abbrev μ-loop : tie.MeasureT-loop
 μ-loop held₀ slot plan row j₀ at₀ held j at = plan .planes - j
 
 loop-holds : tie.Need-loop-holds Inv-loop μ-loop
-loop-holds c = (omega arith, omega arith, planes-none _ _ _ _ _)
+loop-holds c = (omega arith, omega arith, planes-none _ _ _ _ _, refl)
 
 add-held : tie.Need-add-held Inv-loop μ-loop
 add-held c =
@@ -64,7 +67,7 @@ slice-write-held-2 : tie.Need-slice-write-held-2 Inv-loop μ-loop
 slice-write-held-2 c =
     let s = c .before .before .before .before .before in
     let l = c .before .before .before .before .loop in
-    omega (arith, s .pre, l .inv, length-set (l .held) (l .at + s .args .row .lo) 0, plane-fits (s .args .plan) (l .j) (omega arith))
+    omega (arith, s .pre, l .inv, length-set (l .held) (l .at + s .args .row .lo) 32768, plane-fits (s .args .plan) (l .j) (omega arith))
 
 add-j : tie.Need-add-j Inv-loop μ-loop
 add-j c = omega arith
@@ -90,11 +93,12 @@ loop-again c =
       omega arith,
       omega (arith, l .inv .1, add-mul (l .j) 1 (pitchOf p)),
       planes-more _ _ _ _ _ _ _ _ (λ X o. elim o [ inl e ↦ omega arith | inr e ↦ omega arith ]) (l .inv .2)
-          (plane-pair _ _ _ _ _ _ _ _ _ (omega (arith, l .inv .1)) (omega (arith, l .inv .1)) (omega arith) (omega arith) (omega (arith, s .pre, l .inv, fits))),
+          (turned-pair (l .held) _ _ _ _ _ _ _ 32768 _ (turned-high 32768 (omega arith)) (omega (arith, l .inv .1)) (omega (arith, l .inv .1)) (omega arith) (omega arith) (omega (arith, s .pre, l .inv, fits))),
+      length-set (set (l .held) (l .at + s .args .row .lo) 32768) (l .at + s .args .row .hi + 1) 32768 ∙ length-set (l .held) (l .at + s .args .row .lo) 32768 ∙ l .inv .3,
     )
 
 same-length : tie.Need-same-length Inv-loop μ-loop
-same-length c = omega arith
+same-length c = c .before .before .loop .inv .3
 
 returns : tie.Need-returns Inv-loop μ-loop
 returns c =

@@ -3,13 +3,14 @@ use Prim.Native.Nat.{_-_}
 use mathlib.Core.Path.{refl}
 use native.Mathlib.Omega.{arith}
 use Rattle.plans.specs.Plans.{pitchOf}
+use Rattle.states.specs.Runs.{numbers}
 use Rattle.plans.proofs.PlanSizes.{plane-fits}
 use Rattle.states.proofs.JoinLaws.{Joining, joining-none, joining-more, turn-left, turn-fits, some-across, row-joined}
 use Rattle.states.proofs.rows.join_row.Statement.{statement}
 use Rattle.states.proofs.rows.join_row.Tie as tie
 
 abbrev Inv-loop : tie.InvT-loop
-Inv-loop best₀ held slot work at plan row n to h₀ from₀ best h from = Joining held work slot at (plan .planes) (pitchOf plan) (plan .across) best₀ best (row .at) (row .lo) (row .hi) h from
+Inv-loop best₀ held slot work at plan row n to h₀ from₀ best h from = Joining (numbers held) work slot at (plan .planes) (pitchOf plan) (plan .across) best₀ best (row .at) (row .lo) (row .hi) h from
 
 abbrev μ-loop : tie.MeasureT-loop
 μ-loop best₀ held slot work at plan row n to h₀ from₀ best h from = from

@@ -1,11 +1,12 @@
 -- `load_row` meets its contract: plane by plane, the numbers of the row are put, and `guard` makes it a held one.
 use Prim.Native.Nat.{ℕ, _+_, _-_, _*_, _≤_}
-use mathlib.Core.Path.{_≡_, ap}
+use mathlib.Core.Path.{_≡_, refl, ap, _∙_}
 use native.Mathlib.Nat.{add-mul}
 use native.Mathlib.Omega.{arith}
-use lib.ListN.{getD}
+use lib.ListN.{length, getD}
 use Rattle.plans.specs.Plans.{pitchOf}
 use Rattle.plans.proofs.PlanSizes.{part-fits, plane-fits}
+use Rattle.states.specs.Runs.{numbers}
 use Rattle.states.proofs.PlaneLaws.{In, Planes, planes-none, planes-ends, copied-more, apart-then}
 use Rattle.states.proofs.RowLaws.{row-put}
 use Rattle.states.proofs.rows.load_row.Statement.{statement}
@@ -16,7 +17,8 @@ Inv-loop held₀ slot work at plan row j₀ to₀ from₀ held j to from =
     (j ≤ plan .planes)
     × (to ≡ slot + 1 + row .lo + j * pitchOf plan)
     × (from ≡ at + row .lo + j * plan .across)
-    × Planes (In (row .lo + 1) (row .hi + 1)) (λ (i X : ℕ). getD work (at + (i * plan .across + (X - 1))) 0) held₀ held slot (pitchOf plan) j
+    × Planes (In (row .lo + 1) (row .hi + 1)) (λ (i X : ℕ). getD work (at + (i * plan .across + (X - 1))) 0) (numbers held₀) (numbers held) slot (pitchOf plan) j
+    × (length held ≡ length held₀)
 
 abbrev μ-loop : tie.MeasureT-loop
 μ-loop held₀ slot work at plan row j₀ to₀ from₀ held j to from = plan .planes - j
@@ -33,13 +35,13 @@ add-from c =
     let s = c .before .before .before .before in omega (arith, s .pre, s .good, part-fits (s .args .plan) 0 (omega (arith, s .pre)))
 
 loop-holds : tie.Need-loop-holds Inv-loop μ-loop
-loop-holds c = (omega arith, omega arith, omega arith, planes-none _ _ _ _ _)
+loop-holds c = (omega arith, omega arith, omega arith, planes-none _ _ _ _ _, refl)
 
-sub-copy-run : tie.Need-sub-copy-run Inv-loop μ-loop
-sub-copy-run c = omega arith
+sub-turn-run : tie.Need-sub-turn-run Inv-loop μ-loop
+sub-turn-run c = omega arith
 
-copy-run-requires : tie.Need-copy-run-requires Inv-loop μ-loop
-copy-run-requires c κs =
+turn-run-requires : tie.Need-turn-run-requires Inv-loop μ-loop
+turn-run-requires c κs =
     let s = c .before .before .before .before .before .before .before .before .before in
     let l = c .before .before .before .before .loop in
     let p = s .args .plan in
@@ -75,8 +77,9 @@ loop-again c =
       omega arith,
       omega (arith, l .inv .1, add-mul (l .j) 1 (pitchOf p)),
       omega (arith, l .inv .2, add-mul (l .j) 1 (p .across)),
-      copied-more k _ _ _ _ _ _ _ _ _ _ _ _ (l .inv .3) (c .before .before .before .before .copy-run .ensures) (omega (arith, l .inv .1)) (omega (arith, s .pre .0))
+      copied-more k _ _ _ _ _ _ _ _ _ _ _ _ (l .inv .3) (c .before .before .before .before .turn-run .ensures .0) (omega (arith, l .inv .1)) (omega (arith, s .pre .0))
           (omega (arith, s .pre .0)) (λ X a b. ap (λ (q : ℕ). getD k q 0) (omega (arith, l .inv .2))),
+      c .before .before .before .before .turn-run .kept .0 ∙ l .inv .4,
     )
 
 guard-requires : tie.Need-guard-requires Inv-loop μ-loop
@@ -93,8 +96,8 @@ returns c =
     let p = s .args .plan in
     let g = c .before .before .guard .ensures in
     let all = planes-ends _ _ _ _ _ _ _ _ (d .loop .inv .3) (let e : d .loop .j ≡ p .planes = omega arith in e) in
-    let numbers : ℕ → ℕ → ℕ = λ j x. getD (s .args .work .now) (s .args .at + (j * p .across + x)) 0 in
-    (g .0 _ (row-put numbers _ _ _ _ _ _ _ _ all (omega arith)), apart-then _ _ _ _ _ (all .apart) (g .1))
+    let read : ℕ → ℕ → ℕ = λ j x. getD (s .args .work .now) (s .args .at + (j * p .across + x)) 0 in
+    (g .0 _ (row-put read _ _ _ _ _ _ _ _ all (omega arith)), apart-then _ _ _ _ _ (all .apart) (g .1))
 
 pub load-row-spec : {M : Type 1} → statement M
 load-row-spec =
@@ -106,8 +109,8 @@ load-row-spec =
     add-to-2
     add-from
     loop-holds
-    sub-copy-run
-    copy-run-requires
+    sub-turn-run
+    turn-run-requires
     add-j
     add-to-3
     add-to-4

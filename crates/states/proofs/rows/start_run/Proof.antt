@@ -7,6 +7,7 @@ use native.Mathlib.Nat.{add-mul}
 use native.Mathlib.Omega.{arith}
 use lib.ListN.{getD, length}
 use Rattle.plans.specs.Plans.{pitchOf}
+use Rattle.states.specs.Runs.{numbers}
 use Rattle.plans.proofs.PlanSizes.{plane-fits}
 use Rattle.states.proofs.PlaneLaws.{planes-ends}
 use Rattle.states.proofs.RowLaws.{StartedBelow, started-first, started-later, row-started}
@@ -20,8 +21,8 @@ Inv-loop held₀ slot keys at plan first past n start j₀ to₀ held j to =
     × (to ≡ slot + 1 + first + j * pitchOf plan)
     × (length held ≡ length held₀)
     × ((old : List ℕ) →
-    StartedBelow plan (λ (x : ℕ). getD keys (at + x) 0) slot first past old held₀ 1 →
-    StartedBelow plan (λ (x : ℕ). getD keys (at + x) 0) slot first past old held j)
+    StartedBelow plan (λ (x : ℕ). getD keys (at + x) 0) slot first past old (numbers held₀) 1 →
+    StartedBelow plan (λ (x : ℕ). getD keys (at + x) 0) slot first past old (numbers held) j)
 
 abbrev μ-loop : tie.MeasureT-loop
 μ-loop held₀ slot keys at plan first past n start j₀ to₀ held j to = plan .planes - j
@@ -32,16 +33,16 @@ sub-n c = omega arith
 add-start : tie.Need-add-start Inv-loop μ-loop
 add-start c = let s = c .before .before in omega (arith, s .pre, s .good)
 
-add-copy-run : tie.Need-add-copy-run Inv-loop μ-loop
-add-copy-run c =
+add-turn-run : tie.Need-add-turn-run Inv-loop μ-loop
+add-turn-run c =
     let s = c .before .before .before in omega (arith, s .pre, s .good, plane-fits (s .args .plan) 0 (omega (arith, s .pre)))
 
-add-copy-run-2 : tie.Need-add-copy-run-2 Inv-loop μ-loop
-add-copy-run-2 c =
+add-turn-run-2 : tie.Need-add-turn-run-2 Inv-loop μ-loop
+add-turn-run-2 c =
     let s = c .before .before .before in omega (arith, s .pre, s .good, plane-fits (s .args .plan) 0 (omega (arith, s .pre)))
 
-copy-run-requires : tie.Need-copy-run-requires Inv-loop μ-loop
-copy-run-requires c κs = let s = c .before .before .before in omega (arith, s .pre, plane-fits (s .args .plan) 0 (omega (arith, s .pre)))
+turn-run-requires : tie.Need-turn-run-requires Inv-loop μ-loop
+turn-run-requires c κs = let s = c .before .before .before in omega (arith, s .pre, plane-fits (s .args .plan) 0 (omega (arith, s .pre)))
 
 add-to : tie.Need-add-to Inv-loop μ-loop
 add-to c =
@@ -66,7 +67,7 @@ raise-run-requires c κs =
     let s = c .before .before .before .before .before .before .before .before .before .before .before in
     let l = c .before .before .before .loop in
     let p = s .args .plan in
-    omega (arith, s .pre, l .inv, c .before .before .before .before .before .before .before .copy-run .ensures .len, plane-fits p (l .j) (omega arith))
+    omega (arith, s .pre, l .inv, c .before .before .before .before .before .before .before .turn-run .kept .0, plane-fits p (l .j) (omega arith))
 
 add-j : tie.Need-add-j Inv-loop μ-loop
 add-j c = omega arith
@@ -94,14 +95,14 @@ loop-again c =
       omega arith,
       omega arith,
       omega (arith, v .2, add-mul (d .loop .j) 1 (pitchOf (s .args .plan))),
-      f .len ∙ v .3,
+      c .before .before .before .raise-run .kept .0 ∙ v .3,
       λ old made.
           started-later (s .args .plan) (s .args .keys .now) (s .args .slot) (s .args .at) _ _ (s .pre .0 .4) _ _ _ _ _ _ _ _
           (v .4 old made) f refl (v .0) (v .2) refl (omega (arith, s .pre)),
     )
 
 same-length : tie.Need-same-length Inv-loop μ-loop
-same-length c = c .before .before .loop .inv .3 ∙ c .before .before .before .before .before .before .copy-run .ensures .len
+same-length c = c .before .before .loop .inv .3 ∙ c .before .before .before .before .before .before .turn-run .kept .0
 
 returns : tie.Need-returns Inv-loop μ-loop
 returns c =
@@ -109,10 +110,10 @@ returns c =
     let s = d .before .before .before .before .before .before .before .before in
     let p = s .args .plan in
     let k = s .args .keys .now in
-    let r = d .before .before .before .before .copy-run in
-    let entry = s .args .held .now in
-    let made = started-first p k (s .args .slot) (s .args .at) (s .args .first) (s .args .past) (s .pre .0 .4) entry (r .last .0) _ _ _
-    (r .ensures) (omega arith) refl (omega (arith, s .pre)) in
+    let r = d .before .before .before .before .turn-run in
+    let entry = numbers (s .args .held .now) in
+    let made = started-first p k (s .args .slot) (s .args .at) (s .args .first) (s .args .past) (s .pre .0 .4) entry (numbers (r .last .0)) _ _ _
+    (r .ensures .0) (omega arith) refl (omega (arith, s .pre)) in
     let all = planes-ends _ _ _ _ _ _ _ _ (d .loop .inv .4 entry made) (let e : d .loop .j ≡ p .planes = omega arith in e) in
     row-started _ _ (λ (x : ℕ). getD k (s .args .at + x) 0) _ _ _ _ (omega (arith, s .pre)) all
 
@@ -124,9 +125,9 @@ start-run-spec =
     μ-loop
     sub-n
     add-start
-    add-copy-run
-    add-copy-run-2
-    copy-run-requires
+    add-turn-run
+    add-turn-run-2
+    turn-run-requires
     add-to
     add-to-2
     add-to-3

@@ -6,6 +6,7 @@ use native.Mathlib.Omega.{arith}
 use lib.ListN.{getD}
 use Rattle.plans.specs.Plans.{pitchOf}
 use Rattle.plans.proofs.PlanSizes.{part-fits, plane-fits}
+use Rattle.states.specs.Runs.{numbers}
 use Rattle.states.proofs.PlaneLaws.{In, Planes, planes-none, planes-ends, copied-more}
 use Rattle.states.proofs.RowLaws.{row-stored}
 use Rattle.states.proofs.rows.store_row.Statement.{statement}
@@ -16,7 +17,7 @@ Inv-loop work₀ at held slot plan row j₀ to₀ from₀ work j to from =
     (j ≤ plan .planes)
     × (to ≡ at + row .lo + j * plan .across)
     × (from ≡ slot + 1 + row .lo + j * pitchOf plan)
-    × Planes (In (row .lo) (row .hi)) (λ (i x : ℕ). getD held (slot + (i * pitchOf plan + (x + 1))) 0) work₀ work at (plan .across) j
+    × Planes (In (row .lo) (row .hi)) (λ (i x : ℕ). getD (numbers held) (slot + (i * pitchOf plan + (x + 1))) 0) work₀ work at (plan .across) j
 
 abbrev μ-loop : tie.MeasureT-loop
 μ-loop work₀ at held slot plan row j₀ to₀ from₀ work j to from = plan .planes - j
@@ -36,11 +37,11 @@ add-from-2 c =
 loop-holds : tie.Need-loop-holds Inv-loop μ-loop
 loop-holds c = (omega arith, omega arith, omega arith, planes-none _ _ _ _ _)
 
-sub-copy-run : tie.Need-sub-copy-run Inv-loop μ-loop
-sub-copy-run c = omega arith
+sub-turn-run : tie.Need-sub-turn-run Inv-loop μ-loop
+sub-turn-run c = omega arith
 
-copy-run-requires : tie.Need-copy-run-requires Inv-loop μ-loop
-copy-run-requires c κs =
+turn-run-requires : tie.Need-turn-run-requires Inv-loop μ-loop
+turn-run-requires c κs =
     let s = c .before .before .before .before .before .before .before .before .before in
     let l = c .before .before .before .before .loop in
     let p = s .args .plan in
@@ -72,11 +73,11 @@ loop-again c =
     let s = c .before .before .before .before .before .before .before .before .before .before .before .before .before .before in
     let l = c .before .before .before .before .before .before .before .before .before .loop in
     let p = s .args .plan in
-    let k = s .args .held .now in (
+    let k = numbers (s .args .held .now) in (
       omega arith,
       omega (arith, l .inv .1, add-mul (l .j) 1 (p .across)),
       omega (arith, l .inv .2, add-mul (l .j) 1 (pitchOf p)),
-      copied-more k _ _ _ _ _ _ _ _ _ _ _ _ (l .inv .3) (c .before .before .before .before .copy-run .ensures) (omega (arith, l .inv .1)) (omega (arith, s .pre .0))
+      copied-more k _ _ _ _ _ _ _ _ _ _ _ _ (l .inv .3) (c .before .before .before .before .turn-run .ensures .1) (omega (arith, l .inv .1)) (omega (arith, s .pre .0))
           (omega (arith, s .pre .0)) (λ X a b. ap (λ (q : ℕ). getD k q 0) (omega (arith, l .inv .2))),
     )
 
@@ -89,7 +90,7 @@ returns c =
     let s = d .before .before .before .before .before in
     let p = s .args .plan in
     let all = planes-ends _ _ _ _ _ _ _ _ (d .loop .inv .3) (let e : d .loop .j ≡ p .planes = omega arith in e) in
-    (row-stored (s .args .held .now) _ _ (s .args .slot) _ (pitchOf p) _ _ _ _ all, all .apart)
+    (row-stored (numbers (s .args .held .now)) _ _ (s .args .slot) _ (pitchOf p) _ _ _ _ all, all .apart)
 
 pub store-row-spec : {M : Type 1} → statement M
 store-row-spec =
@@ -101,8 +102,8 @@ store-row-spec =
     add-from
     add-from-2
     loop-holds
-    sub-copy-run
-    copy-run-requires
+    sub-turn-run
+    turn-run-requires
     add-j
     add-to-2
     add-from-3

@@ -1,14 +1,18 @@
 -- `fold_run` meets its contract: the run grows by one place a turn.
 use Prim.Native.Nat.{ℕ, _+_, _-_, _≤_, min, max}
+use mathlib.Core.Path.{sym, ap, _∙_}
 use native.Mathlib.Omega.{arith}
 use lib.ListN.{getD}
-use Rattle.states.specs.Runs.{Between}
+use Rattle.states.specs.Runs.{Between, numbers}
+use Rattle.states.proofs.TurnedLaws.{numbers-at}
 use Rattle.states.proofs.RunLaws.{between-none, between-ends, fold-more}
 use Rattle.states.proofs.runs.fold_run.Statement.{statement}
 use Rattle.states.proofs.runs.fold_run.Tie as tie
 
 abbrev Inv-loop : tie.InvT-loop
-Inv-loop best₀ b held h work w n x₀ best x = (x ≤ n) × Between (λ (k : ℕ). max (getD best₀ k 0) (min (getD held (h + (k - b)) 0) (getD work (w + (k - b)) 0))) best₀ best b (b + x)
+Inv-loop best₀ b held h work w n x₀ best x =
+    (x ≤ n)
+    × Between (λ (k : ℕ). max (getD best₀ k 0) (min (getD (numbers held) (h + (k - b)) 0) (getD work (w + (k - b)) 0))) best₀ best b (b + x)
 
 abbrev μ-loop : tie.MeasureT-loop
 μ-loop best₀ b held h work w n x₀ best x = n - x
@@ -25,6 +29,18 @@ mul-max2 c = omega arith
 slice-read-max2 : tie.Need-slice-read-max2 Inv-loop μ-loop
 slice-read-max2 c = omega arith
 
+add-turn : tie.Need-add-turn Inv-loop μ-loop
+add-turn c = omega arith
+
+mul-turn : tie.Need-mul-turn Inv-loop μ-loop
+mul-turn c = omega arith
+
+shared-slice-read-turn : tie.Need-shared-slice-read-turn Inv-loop μ-loop
+shared-slice-read-turn c = omega arith
+
+turn-requires : tie.Need-turn-requires Inv-loop μ-loop
+turn-requires c κs = tt
+
 add-min2 : tie.Need-add-min2 Inv-loop μ-loop
 add-min2 c = omega arith
 
@@ -33,15 +49,6 @@ mul-min2 c = omega arith
 
 shared-slice-read-min2 : tie.Need-shared-slice-read-min2 Inv-loop μ-loop
 shared-slice-read-min2 c = omega arith
-
-add-min2-2 : tie.Need-add-min2-2 Inv-loop μ-loop
-add-min2-2 c = omega arith
-
-mul-min2-2 : tie.Need-mul-min2-2 Inv-loop μ-loop
-mul-min2-2 c = omega arith
-
-shared-slice-read-min2-2 : tie.Need-shared-slice-read-min2-2 Inv-loop μ-loop
-shared-slice-read-min2-2 c = omega arith
 
 min2-requires : tie.Need-min2-requires Inv-loop μ-loop
 min2-requires c κs = tt
@@ -66,10 +73,13 @@ loop-less c = omega arith
 
 loop-again : tie.Need-loop-again Inv-loop μ-loop
 loop-again c =
-    let s = c .before .before .before .before .before .before .before .before .before .before in
-    let l = c .before .before .before .before .before .before .loop in (
+    let s = c .before .before .before .before .before .before .before .before .before .before .before in
+    let a = s .args in
+    let l = c .before .before .before .before .before .before .before .loop in
+    let turned-back = c .before .before .before .turn .ensures .0 ∙ sym (numbers-at (a .held .now) (a .h + l .x) (omega arith)) in (
       omega arith,
-      fold-more (s .args .held .now) (s .args .work .now) _ _ (s .args .h) (s .args .w) _ _ _ _ _ (l .inv .1) (s .pre .0) (c .before .before .before .before .before .loop-test .taken) (c .before .min2 .ensures) (c .max2 .ensures),
+      fold-more (numbers (a .held .now)) (a .work .now) _ _ (a .h) (a .w) _ _ _ _ _ (l .inv .1) (s .pre .0) (c .before .before .before .before .before .before .loop-test .taken)
+          (c .before .min2 .ensures ∙ ap (λ (v : ℕ). min v (getD (a .work .now) (a .w + l .x) 0)) turned-back) (c .max2 .ensures),
     )
 
 same-length : tie.Need-same-length Inv-loop μ-loop
@@ -88,12 +98,13 @@ fold-run-spec =
     add-max2
     mul-max2
     slice-read-max2
+    add-turn
+    mul-turn
+    shared-slice-read-turn
+    turn-requires
     add-min2
     mul-min2
     shared-slice-read-min2
-    add-min2-2
-    mul-min2-2
-    shared-slice-read-min2-2
     min2-requires
     max2-requires
     add-best

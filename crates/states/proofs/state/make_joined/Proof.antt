@@ -8,8 +8,10 @@ use borrow.Author.Needs.{needs}
 use lib.ListN.{length}
 use Rattle.basics.proofs.Numbers.{rows-fit}
 use Rattle.plans.specs.Plans.{rowsIn, rowSize}
+use Rattle.states.specs.Runs.{numbers}
 use Rattle.states.specs.Holding.{Halves, NextRows}
 use Rattle.states.specs.States.{furtherIn}
+use Rattle.states.proofs.TurnedLaws.{turned-high, same-many, numbers-filled}
 use Rattle.states.proofs.SizeLaws.{block-small, row-small, row-back, row-fits, row-keyed, row-earlier, half-room}
 use Rattle.states.proofs.StretchLaws.{halves-room, last-room, slotted-at, rows-one, rows-same, Turn, turn}
 use Rattle.states.proofs.StateLaws.{halves-first, halves-same, halves-swapped, kept-all, Making, making-none, making-more, making-swapped}
@@ -24,7 +26,7 @@ Inv-loop best₀ work held₀ below₀ plan states from ends first e half last s
     × Halves plan (furtherIn states) slots (length held)
     × (length held ≡ length held₀)
     × (length below ≡ length below₀)
-    × Making plan (states .first) (states .past) m work from held (slots .was)
+    × Making plan (states .first) (states .past) m work from (numbers held) (slots .was)
     × Joining plan (states .first) (states .past) m work from ends best₀ best
 
 abbrev μ-loop : tie.MeasureT-loop
@@ -48,22 +50,22 @@ one-back t = row-back _ _ _ (t .if1 .taken)
 
 -- the rows of all states, or the one of a state by itself, beside that of the state before
 rows : (j : tie.Joined2 Inv-loop μ-loop) → let t = j .before .before .before .before .before .before in let a = start t .args in let l = head t .loop in
-    NextRows (a .plan) (a .states .first) (a .states .past) (l .m) (a .work .now) (l .slots) (j .before .before .before .hold-last .last .0) (j .if2 .held)
+    NextRows (a .plan) (a .states .first) (a .states .past) (l .m) (a .work .now) (l .slots) (numbers (j .before .before .before .hold-last .last .0)) (numbers (j .if2 .held))
     × (length (j .if2 .below) ≡ length (l .below))
 rows j =
     let t = j .before .before .before .before .before .before in
     let s = start t in
     ⊎-elim
-    (λ w. (rows-same _ _ _ _ _ _ _ _ _ (w .3 .ensures .0) (w .8), ap length (w .9) ∙ w .3 .kept .1 .0))
+    (λ w. (rows-same _ _ _ _ _ _ _ _ _ (w .3 .ensures .0) (ap numbers (w .8)), ap length (w .9) ∙ w .3 .kept .1 .0))
     (λ w.
     let alone = let q : s .args .states .past ≡ s .args .states .first + 1 = omega (arith, w .0 .left, s .pre .0) in q in (
-      rows-same _ _ _ _ _ _ _ _ _ (rows-one _ _ _ _ _ _ _ _ _ (s .pre .0 .0) alone (s .pre .0 .2) (row-left t) (head t .loop .inv .2) (w .3 .ensures .0)) (w .8),
+      rows-same _ _ _ _ _ _ _ _ _ (rows-one _ _ _ _ _ _ _ _ _ (s .pre .0 .0) alone (s .pre .0 .2) (row-left t) (head t .loop .inv .2) (w .3 .ensures .0)) (ap numbers (w .8)),
       ap length (w .9) ∙ w .3 .kept .1 .0,
     ))
     (j .if2 .came)
 
 turned : (j : tie.Joined2 Inv-loop μ-loop) → let t = j .before .before .before .before .before .before in let a = start t .args in let l = head t .loop in
-    Turn (a .plan) (a .states .first) (a .states .past) (l .m) (a .work .now) (a .from) (l .slots) (l .held) (j .if2 .held)
+    Turn (a .plan) (a .states .first) (a .states .past) (l .m) (a .work .now) (a .from) (l .slots) (numbers (l .held)) (numbers (j .if2 .held))
 turned j =
     let t = j .before .before .before .before .before .before in
     let s = start t in
@@ -72,7 +74,7 @@ turned j =
     (rows j .0)
 
 made : (j : tie.Joined2 Inv-loop μ-loop) → let t = j .before .before .before .before .before .before in let a = start t .args in let l = head t .loop in
-    Making (a .plan) (a .states .first) (a .states .past) (suc (l .m)) (a .work .now) (a .from) (j .if2 .held) (l .slots .now)
+    Making (a .plan) (a .states .first) (a .states .past) (suc (l .m)) (a .work .now) (a .from) (numbers (j .if2 .held)) (l .slots .now)
 made j =
     let t = j .before .before .before .before .before .before in
     let s = start t in
@@ -125,7 +127,8 @@ loop-holds c =
       halves-first _ _ _ _ _ refl (h .0) (s .pre .1 .1 .1 .0) (s .pre .1 .1 .1 .1) (f .kept .0),
       refl,
       refl,
-      making-none (s .args .plan) _ _ _ _ _ _ _ (f .ensures) (omega (arith, h .0)),
+      making-none (s .args .plan) _ _ _ _ _ _ _
+          (numbers-filled _ _ _ _ _ _ (f .ensures) (omega (arith, h .0, s .pre .1 .1 .1)) (turned-high 32768 (omega arith))) (omega (arith, h .0)),
       joining-none _ _ _ _ _ _ _,
     )
 
@@ -195,7 +198,7 @@ join-row-requires c κs =
     let room = rows-fit 0 (p .rows - l .m) (p .rows) (rowSize p) (omega arith) in
     let keyed = row-keyed p e (l .m) (r .result .at) (s .pre .0 .0) near (row-left t) (r .ensures .2) in (
       row-fits p e (l .m) (r .result) (s .pre .0 .0) near (row-left t) (r .ensures .0) (r .ensures .1),
-      omega (arith, half-room p, halves-room p 0 _ (l .slots) _ (l .inv .2) (omega arith), turned j .len),
+      omega (arith, half-room p, halves-room p 0 _ (l .slots) _ (l .inv .2) (omega arith), same-many _ _ (turned j .len)),
       omega (arith, l .inv .1, one-back t, room, s .pre .1 .1 .0),
       omega (arith, keyed, s .pre .1 .0, l .inv .6 .len),
     )
@@ -215,7 +218,7 @@ loop-again c =
     let t = j .before .before .before .before .before .before in
     let s = start t in
     let i = head t .loop .inv in
-    let len = turned j .len in
+    let len = same-many _ _ (turned j .len) in
     let r = c .before .before .before .before .before .before .row-in .ensures in
     let b = c .before .before .before .join-row in
     let w = c .swapped .ensures in

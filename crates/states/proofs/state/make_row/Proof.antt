@@ -8,11 +8,12 @@ use native.Mathlib.Omega.{arith}
 use borrow.Author.Needs.{needs}
 use lib.ListN.{length, getD}
 use Rattle.plans.specs.Plans.{starts, pitchOf, blockOf}
-use Rattle.states.specs.Runs.{Apart}
+use Rattle.states.specs.Runs.{Apart, numbers}
 use Rattle.states.specs.Rows.{RowOf, RowHeld, TapsOf, blended}
 use Rattle.states.specs.Holding.{MadeRow}
+use Rattle.states.proofs.TurnedLaws.{numbers-length}
 use Rattle.states.proofs.SizeLaws.{half-room, row-fits, row-keyed}
-use Rattle.states.proofs.HoldingLaws.{TapsAt, slots-within, taps-fit, made-started, made-blended}
+use Rattle.states.proofs.HoldingLaws.{TapsAt, slotted-same, slots-within, taps-fit, made-started, made-blended}
 use Rattle.states.proofs.state.make_row.Statement.{statement}
 use Rattle.states.proofs.state.make_row.Tie as tie
 
@@ -95,15 +96,15 @@ blends t =
 -- and what a blended row is
 blended-row : (t : tie.After-tap3) (new : List ℕ) → let r = t .before .before .before .before .before in let a = start r .args in starts (a .plan) (a .e) (a .m) ≡ false →
     RowHeld new (a .slots .now + 1 - 1) (a .plan .planes) (pitchOf (a .plan)) (r .row-in .result .lo) (r .row-in .result .hi)
-    (blended (a .held .now) (pitchOf (a .plan)) (t .before .before .tap .result) (t .before .tap2 .result) (t .tap3 .result)
+    (blended (numbers (a .held .now)) (pitchOf (a .plan)) (t .before .before .tap .result) (t .before .tap2 .result) (t .tap3 .result)
     (λ (x : ℕ). getD (a .work .now) (r .row-in .result .at + x) 0)) →
-    Apart (a .held .now) new (a .slots .now + 1 - 1) (a .slots .now + 1 - 1 + blockOf (a .plan)) →
-    MadeRow (a .plan) (a .e) (a .m) (a .work .now) (a .slots) (a .held .now) new
+    Apart (numbers (a .held .now)) new (a .slots .now + 1 - 1) (a .slots .now + 1 - 1 + blockOf (a .plan)) →
+    MadeRow (a .plan) (a .e) (a .m) (a .work .now) (a .slots) (numbers (a .held .now)) new
 blended-row t new later row apart =
     let r = t .before .before .before .before .before in
     let s = start r in
     let e = r .row-in .ensures in
-    made-blended _ _ _ _ _ _ _ (s .pre .0) (s .pre .1 .1 .0) (s .pre .1 .0 .0) (s .pre .1 .0 .1) later
+    made-blended _ _ _ _ _ _ _ (s .pre .0) (slotted-same _ _ _ _ (s .pre .1 .1 .0) (numbers-length (s .args .held .now))) (s .pre .1 .0 .0) (s .pre .1 .0 .1) later
     _ _ _ _ _ _ _ (e .0) (e .1) (e .2) (taps t) (omega arith) row apart
 
 blend-sole-row-requires : tie.Need-blend-sole-row-requires

@@ -8,9 +8,11 @@ use native.Mathlib.Omega.{arith}
 use borrow.Author.Needs.{needs}
 use lib.ListN.{length}
 use Rattle.plans.specs.Plans.{rowsIn, rowSize}
+use Rattle.states.specs.Runs.{numbers}
 use Rattle.states.specs.Holding.{Halves, NextRows}
 use Rattle.states.specs.States.{furtherIn}
 use Rattle.plans.proofs.PlanSizes.{rows-few}
+use Rattle.states.proofs.TurnedLaws.{turned-high, same-many, numbers-filled}
 use Rattle.states.proofs.SizeLaws.{block-small, row-small, row-fits, row-earlier, row-within, half-room, half-most}
 use Rattle.states.proofs.StretchLaws.{halves-room, last-room, slotted-at, rows-one, rows-same, Turn, turn}
 use Rattle.states.proofs.StateLaws.{halves-first, halves-same, halves-swapped, kept-apart, Making, making-none, making-more, making-swapped}
@@ -25,7 +27,7 @@ Inv-loop work₀ held₀ below₀ plan states from to first e half last slots₀
     × Halves plan (furtherIn states) slots (length held)
     × (length held ≡ length held₀)
     × (length below ≡ length below₀)
-    × Making plan (states .first) (states .past) m work₀ from held (slots .was)
+    × Making plan (states .first) (states .past) m work₀ from (numbers held) (slots .was)
     × Stored plan (states .first) (states .past) m work₀ from work to
 
 abbrev μ-loop : tie.MeasureT-loop
@@ -42,7 +44,7 @@ row-left t = omega (arith, t .loop-test .taken, t .before .before .rows-in .ensu
 
 -- the rows of all states, or the one of a state by itself, beside that of the state before
 rows : (j : tie.Joined1 Inv-loop μ-loop) → let t = j .before .before .before .before .before .before .before in let a = start t .args in let l = t .before .loop in
-    NextRows (a .plan) (a .states .first) (a .states .past) (l .m) (l .work) (l .slots) (j .before .before .before .hold-last .last .0) (j .if1 .held)
+    NextRows (a .plan) (a .states .first) (a .states .past) (l .m) (l .work) (l .slots) (numbers (j .before .before .before .hold-last .last .0)) (numbers (j .if1 .held))
     × (length (j .if1 .below) ≡ length (l .below))
 rows j =
     let t = j .before .before .before .before .before .before .before in
@@ -51,16 +53,16 @@ rows j =
     let i = l .inv in
     let b = j .before .before .before .hold-last in
     ⊎-elim
-    (λ w. (rows-same _ _ _ _ _ _ _ _ _ (w .4 .ensures .0) (w .9), ap length (w .10) ∙ w .4 .kept .1 .0))
+    (λ w. (rows-same _ _ _ _ _ _ _ _ _ (w .4 .ensures .0) (ap numbers (w .9)), ap length (w .10) ∙ w .4 .kept .1 .0))
     (λ w.
     let alone = let q : s .args .states .past ≡ s .args .states .first + 1 = omega (arith, w .0 .left, s .pre .0) in q in (
-      rows-same _ _ _ _ _ _ _ _ _ (rows-one _ _ _ _ _ _ _ _ _ (s .pre .0 .0) alone (s .pre .0 .2) (row-left t) (i .2) (w .4 .ensures .0)) (w .9),
+      rows-same _ _ _ _ _ _ _ _ _ (rows-one _ _ _ _ _ _ _ _ _ (s .pre .0 .0) alone (s .pre .0 .2) (row-left t) (i .2) (w .4 .ensures .0)) (ap numbers (w .9)),
       ap length (w .10) ∙ w .4 .kept .1 .0,
     ))
     (j .if1 .came)
 
 turned : (j : tie.Joined1 Inv-loop μ-loop) → let t = j .before .before .before .before .before .before .before in let a = start t .args in let l = t .before .loop in
-    Turn (a .plan) (a .states .first) (a .states .past) (l .m) (l .work) (a .from) (l .slots) (l .held) (j .if1 .held)
+    Turn (a .plan) (a .states .first) (a .states .past) (l .m) (l .work) (a .from) (l .slots) (numbers (l .held)) (numbers (j .if1 .held))
 turned j =
     let t = j .before .before .before .before .before .before .before in
     let s = start t in
@@ -69,7 +71,7 @@ turned j =
     turn _ _ _ _ _ _ _ _ _ _ _ _ _ (s .pre .0 .0) (s .pre .0 .1) (s .pre .0 .2) (row-left t) (l .inv .2) (t .before .before .before .before .before .before .before .before .before .half-with .ensures .0) refl (b .0) (b .1) (rows j .0)
 
 made : (j : tie.Joined1 Inv-loop μ-loop) → let t = j .before .before .before .before .before .before .before in let a = start t .args in let l = t .before .loop in
-    Making (a .plan) (a .states .first) (a .states .past) (suc (l .m)) (a .work .now) (a .from) (j .if1 .held) (l .slots .now)
+    Making (a .plan) (a .states .first) (a .states .past) (suc (l .m)) (a .work .now) (a .from) (numbers (j .if1 .held)) (l .slots .now)
 made j =
     let t = j .before .before .before .before .before .before .before in
     let s = start t in
@@ -113,7 +115,8 @@ loop-holds c =
       halves-first _ _ _ _ _ refl (h .0) (s .pre .1 .1 .1 .0) (s .pre .1 .1 .1 .1) (f .kept .0),
       refl,
       refl,
-      making-none (s .args .plan) _ _ _ _ _ _ _ (f .ensures) (omega (arith, h .0)),
+      making-none (s .args .plan) _ _ _ _ _ _ _
+          (numbers-filled _ _ _ _ _ _ (f .ensures) (omega (arith, h .0, s .pre .1 .1 .1)) (turned-high 32768 (omega arith))) (omega (arith, h .0)),
       stored-none _ _ _ _ _ _,
     )
 
@@ -177,7 +180,7 @@ store-row-requires c κs =
     let e = s .args .states .past - 1 in
     let r = c .before .before .row-in in (
       row-fits p e (l .m) (r .result) (s .pre .0 .0) (omega (arith, s .pre .0)) (row-left t) (r .ensures .0) (r .ensures .1),
-      omega (arith, half-room p, halves-room p 0 _ (l .slots) _ (l .inv .2) (omega arith), turned j .len),
+      omega (arith, half-room p, halves-room p 0 _ (l .slots) _ (l .inv .2) (omega arith), same-many _ _ (turned j .len)),
       omega (arith, row-within p e (l .m) (row-left t), s .pre .1 .0, l .inv .1, l .inv .6 .apart .len),
     )
 
@@ -213,7 +216,7 @@ loop-again c =
     let s = start t in
     let l = t .before .loop in
     let i = l .inv in
-    let len = turned j .len in
+    let len = same-many _ _ (turned j .len) in
     let r = c .before .before .before .before .before .before .before .row-in .ensures in
     let o = c .before .before .before .before .store-row .ensures in
     let w = c .before .swapped .ensures in (

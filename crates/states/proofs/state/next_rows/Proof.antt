@@ -4,9 +4,11 @@ use mathlib.Core.Path.{_≡_, refl, ap, _∙_, subst, sym}
 use native.Mathlib.Omega.{arith}
 use lib.ListN.{length}
 use Rattle.plans.specs.Plans.{rowsIn, blockOf, halfOf}
+use Rattle.states.specs.Runs.{numbers}
 use Rattle.states.specs.Holding.{Slotted}
 use Rattle.states.specs.States.{furtherIn}
 use Rattle.states.specs.declared.state.Slots.{Slots}
+use Rattle.states.proofs.TurnedLaws.{same-many}
 use Rattle.states.proofs.SizeLaws.{block-small, half-room, row-earlier}
 use Rattle.states.proofs.StretchLaws.{RowsTo, rows-none, rows-more, rows-all, halves-room, slotted-at, one-nearer}
 use Rattle.states.proofs.state.next_rows.Statement.{statement}
@@ -18,7 +20,7 @@ Inv-loop held₀ below₀ work plan states m slots block e₀ at₀ held below e
     × (e ≤ states .past)
     × (at ≡ (states .past - e) * blockOf plan)
     × (length below ≡ length below₀)
-    × RowsTo plan (states .first) (states .past) m e work slots held₀ held
+    × RowsTo plan (states .first) (states .past) m e work slots (numbers held₀) (numbers held)
 
 abbrev μ-loop : tie.MeasureT-loop
 μ-loop held₀ below₀ work plan states m slots block e₀ at₀ held below e at = states .past - e
@@ -96,7 +98,7 @@ make-row-requires c κs =
       s .pre .0 .0,
       (
         (omega (arith, s .pre .0, taken), has-row s (l .e) taken, s .pre .1 .0 .1),
-        (slotted s (l .e) _ (c .further .result) (omega (arith, l .inv .0)) (l .inv .4 .apart .len) (own c .0) (own c .1), omega (arith, s .pre .1 .1 .1, l .inv .3)),
+        (slotted s (l .e) _ (c .further .result) (omega (arith, l .inv .0)) (same-many _ _ (l .inv .4 .apart .len)) (own c .0) (own c .1), omega (arith, s .pre .1 .1 .1, l .inv .3)),
       ),
     )
 
@@ -127,7 +129,7 @@ loop-again c =
 -- ---- the end
 
 same-length : tie.Need-same-length Inv-loop μ-loop
-same-length c = c .before .before .loop .inv .4 .apart .len
+same-length c = same-many _ _ (c .before .before .loop .inv .4 .apart .len)
 
 same-length-2 : tie.Need-same-length-2 Inv-loop μ-loop
 same-length-2 c = c .before .before .loop .inv .3
