@@ -18,7 +18,7 @@ use crate::plan::reach_of;
 use plate::Setting;
 
 // Raises each level of the result to the best walk of the direction through its pixel. The best
-// numbers of the plate's pixels take 128 KB of stack, and the sweep 39 KB.
+// numbers of the plate's pixels take 128 KB of stack, and the sweep 51 KB.
 fn raise_all(
     result: &mut [i16],
     work: &mut [u16],
