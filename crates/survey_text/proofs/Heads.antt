@@ -7,8 +7,8 @@ use native.Mathlib.Omega.{arith}
 use borrow.Author.Tests.{ltb-false, lt-ltb, le-ltb}
 use lib.Dec.{ltb}
 use Rattle.plate.specs.Refusals.{Verdict.accepted, row, badSize, judged, sizeCheck}
-use Rattle.survey_text.specs.Bytes.{bytes}
-use Rattle.survey_text.specs.Format.{number}
+use Rattle.text_lines.specs.Bytes.{bytes}
+use Rattle.text_lines.specs.Format.{number}
 use Rattle.survey_text.specs.Reading.{maxPlate, PlateText, Rest, next, opening, sizeJudged, editionLine, sizeLines, settingLines, plateLines, reading}
 use Rattle.survey_text.specs.Cursors.{stands, Counted, Step}
 use Rattle.survey_text.specs.declared.cursor.Cursor.{Cursor}

@@ -1,10 +1,5 @@
--- numbers, names and lines on bytes
-pub mod Digits
-pub mod Parts
-pub mod Names
-pub mod Lines
+-- a line, the reader's steps, its rows and its size
 pub mod NextLine
--- the reader's steps, its rows and its size
 pub mod Verdicts
 pub mod Steps
 pub mod Rows

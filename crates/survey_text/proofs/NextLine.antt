@@ -4,7 +4,7 @@ use mathlib.Core.Path.{_≡_}
 use mathlib.Core.List.{List}
 use mathlib.Core.Option.{Option, none, some}
 use Rattle.plate.specs.Refusals.{Verdict.accepted, Verdict.refused}
-use Rattle.survey_text.specs.Format.{named}
+use Rattle.text_lines.specs.Format.{named}
 use Rattle.survey_text.specs.Reading.{Rest, next}
 
 module _ {A : Type 0} (name : List ℕ) (form : List ℕ → Option A) (l : Rest) where

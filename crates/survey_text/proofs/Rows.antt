@@ -9,7 +9,7 @@ use lib.Seq.{take-all, take-at, length-take-le}
 use borrow.Author.Tests.{lt-ltb, le-ltb}
 use borrow.Rule.Slice.PartMut.{putMid, same-len-mid}
 use Rattle.plate.specs.Refusals.{Verdict, Verdict.accepted, Verdict.refused, judged}
-use Rattle.survey_text.specs.Format.{list}
+use Rattle.text_lines.specs.Format.{list}
 use Rattle.survey_text.specs.Reading.{_>>=_, Rest, next, atEnd, rowLines}
 use Rattle.survey_text.specs.Cursors.{restFrom, stands, Counted, Step, Last}
 use Rattle.survey_text.specs.declared.cursor.Cursor.{Cursor}

@@ -8,8 +8,8 @@ use lib.ListN.{drop}
 use borrow.Author.Tests.{lt-ltb, le-ltb}
 use Rattle.plate.specs.Refusals.{Verdict, Verdict.accepted, Verdict.refused}
 use Rattle.plate.specs.declared.setting.Setting.{Setting}
-use Rattle.survey_text.specs.Bytes.{bytes}
-use Rattle.survey_text.specs.Format.{named, number}
+use Rattle.text_lines.specs.Bytes.{bytes}
+use Rattle.text_lines.specs.Format.{named, number}
 use Rattle.survey_text.specs.Reading.{_>>=_, Rest, next, opening, editionLine, sizeLines, endsLine, settingLines, plateLines, reading}
 use Rattle.survey_text.specs.Cursors.{restFrom, stands, Counted, Step, Last}
 use Rattle.survey_text.specs.declared.cursor.Cursor.{Cursor}

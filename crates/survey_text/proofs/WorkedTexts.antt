@@ -7,7 +7,7 @@ use Rattle.plate.specs.Directions.{table, stepsIn, steps, member, chosen}
 use Rattle.plate.specs.Paths.{places, placeAt, stepFrom, arrivals, reachedBy, next as nextPlaces, pathsFrom, pathsIn, paths, through, lastAfter, endsOf, crossed}
 use Rattle.plate.specs.Opening.{below, admits, kept, greatest, highest, openedAt, opened, closed, filtered}
 use Rattle.plate.specs.Refusals.{judged, badSize, badLength, badGaps, badDirections, badMode, badEnds, badReading, badCorrection, settingVerdict, correctionVerdict, traceVerdict}
-use Rattle.survey_text.specs.Format.{is, isDigit, valueAfter, number, edition, parts, numbers, list, nextLine, after, named}
+use Rattle.text_lines.specs.Format.{is, isDigit, valueAfter, number, edition, parts, numbers, list, nextLine, after, named}
 use Rattle.survey_text.specs.Reading.{opening, sizeJudged, next, atEnd, editionLine, sizeLines, endsLine, settingLines, rowLines, plateLines, reading}
 use Rattle.survey_text.specs.Printing.{digits, decimal, signedDecimal, parted, line, rows, outLine, outText, levelLine, pathLine, traceText, refusalText}
 use Rattle.survey_text.specs.Survey.{prepared, requested, surveyText, answer}

@@ -1,6 +1,4 @@
--- section 6 of document 01: the text that is read, the lines that are printed, and the answer
-pub mod Bytes
-pub mod Format
+-- section 6 of document 01: the text that is read (its lines by text_lines), the lines that are printed, and the answer
 pub mod Reading
 pub mod Printing
 pub mod Survey

@@ -5,7 +5,7 @@ use mathlib.Core.List.{List, [], _∷_, _++_, map, flatMap}
 use lib.Dec.{ltb}
 use lib.ListN.{take, drop}
 use lib.IntN.{ℤ, pos, negsuc}
-use Rattle.survey_text.specs.Bytes.{bytes, newline, comma, minus, zeroDigit}
+use Rattle.text_lines.specs.Bytes.{bytes, newline, comma, minus, zeroDigit}
 
 -- the last `count` decimal digits of n, without needless zeros
 unfoldable pub digits : ℕ → ℕ → List ℕ

@@ -9,8 +9,8 @@ use lib.ListN.{length}
 use Rattle.plate.specs.RefusalNumbers.{refusalLine, refusalLarge}
 use Rattle.plate.specs.Refusals.{Verdict, Verdict.accepted, Verdict.refused, row, judged, sizeCheck}
 use Rattle.plate.specs.declared.setting.Setting.{Setting}
-use Rattle.survey_text.specs.Bytes.{bytes}
-use Rattle.survey_text.specs.Format.{_>>=_ as _then_, number, edition, list, named}
+use Rattle.text_lines.specs.Bytes.{bytes}
+use Rattle.text_lines.specs.Format.{_>>=_ as _then_, number, edition, list, named}
 
 -- the longest text, in bytes, and the largest plate, in pixels, of the program
 abbrev pub maxBytes : ℕ

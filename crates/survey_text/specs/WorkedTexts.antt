@@ -4,7 +4,7 @@ use Prim.Native.Nat.{ℕ, _-_}
 use Prim.Native.String.{String}
 use mathlib.Core.List.{List, [], _∷_, _++_, flatMap}
 use lib.ListN.{length, take, drop, set, replicate}
-use Rattle.survey_text.specs.Bytes.{bytes, newline}
+use Rattle.text_lines.specs.Bytes.{bytes, newline}
 
 -- a text, the way and the path that are shown where a trace is accepted, and what is printed
 pub record Worked : Type 0 where

@@ -1,80 +1,21 @@
-// Lines: the next one is found, its name is compared, and its value is read.
-ghost use mathlib.Core.Path.{_≡_};
-ghost use lib.ListN.{length, drop};
-ghost use Rattle.basics.specs.Lists.{firstOf};
-ghost use Rattle.survey_text.specs.Format.{is, after, named, number, list};
+// The line at the cursor, read: the cursor goes behind it, or the line is refused.
+ghost use lib.ListN.{length};
+ghost use Rattle.text_lines.specs.Format.{number, list};
 ghost use Rattle.survey_text.specs.Reading.{next, editionLine};
-ghost use Rattle.survey_text.specs.Within.{whether, valueRead, Inside};
 ghost use Rattle.survey_text.specs.Cursors.{Counted, Step};
 use crate::cursor::Cursor;
-use crate::number::Number;
-use crate::number::edition_in;
-use crate::number::list_in;
-use crate::number::number_in;
 use plate::refusal;
-
-// Where the value of a line stands: its first byte, and the newline behind it.
-pub(crate) enum Value {
-    Between { from: usize, end: usize },
-    Bad,
-}
+use text_lines::Number;
+use text_lines::Value;
+use text_lines::edition_in;
+use text_lines::list_in;
+use text_lines::number_in;
+use text_lines::value_at;
 
 // The number of a line, and the cursor behind it.
 pub(crate) struct NumberLine {
     pub(crate) value: usize,
     pub(crate) next: Cursor,
-}
-
-// How many bytes stand before the first b.
-pub(crate) fn find(b: u8, s: &[u8]) -> usize
-    ensures { λ r. ⌜ r ≡ firstOf (is b) (now (s .entry)) ⌝ }
-{
-    let mut i = 0;
-    while i < s.len() {
-        if s[i] == b {
-            return i;
-        }
-        i += 1;
-    }
-    i
-}
-
-// Whether the bytes begin with this name.
-fn begins(s: &[u8], name: &[u8]) -> bool
-    ensures { λ r. ⌜ whether r (drop (length (now (name .entry))) (now (s .entry))) ≡ after (now (name .entry)) (now (s .entry)) ⌝ }
-{
-    let mut i = 0;
-    while i < name.len() {
-        if i >= s.len() {
-            return false;
-        }
-        if s[i] != name[i] {
-            return false;
-        }
-        i += 1;
-    }
-    true
-}
-
-// The value of the line at this place, if it has this name and a newline ends it.
-fn value_at(s: &[u8], name: &[u8], at: usize) -> Value
-    ensures { λ r. ⌜ valueRead (now (s .entry)) r ≡ named (now (name .entry)) (drop at (now (s .entry))) ⌝ }
-    ensures { λ r. ⌜ Inside at (length (now (s .entry))) r ⌝ }
-{
-    if at >= s.len() {
-        return Value::Bad;
-    }
-    let end = at + find(b'\n', &s[at..]);
-    if end >= s.len() {
-        return Value::Bad;
-    }
-    if !begins(&s[at..end], name) {
-        return Value::Bad;
-    }
-    Value::Between {
-        from: at + name.len(),
-        end: end,
-    }
 }
 
 // The line at the cursor: its name, then a number.

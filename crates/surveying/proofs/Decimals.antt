@@ -11,7 +11,7 @@ use lib.Dec.{ltb}
 use lib.ListN.{length, length-append}
 use borrow.Author.Tests.{lt-ltb, le-ltb}
 use Rattle.basics.proofs.Numbers.{le-or-lt}
-use Rattle.survey_text.specs.Bytes.{zeroDigit}
+use Rattle.text_lines.specs.Bytes.{zeroDigit}
 use Rattle.survey_text.specs.Printing.{digits, decimal}
 
 -- any two counts above the number give the same

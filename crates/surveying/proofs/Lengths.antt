@@ -9,7 +9,7 @@ use lib.IntN.{ℤ, pos, negsuc}
 use lib.ListN.{length, getD, take, drop, length-append, length-take, length-drop}
 use lib.Seq.{getD-take, getD-drop}
 use lib.Signed.{mag}
-use Rattle.survey_text.specs.Bytes.{bytes, newline, comma}
+use Rattle.text_lines.specs.Bytes.{bytes, newline, comma}
 use Rattle.survey_text.specs.Printing.{decimal, signedDecimal, parted, line, rows, outLine, outText, levelLine, pathLine, traceText, refusalText}
 use Rattle.surveying.specs.Steps.{maxOut, maxTrace, maxRefusal, SixteenBits}
 use Rattle.surveying.proofs.Decimals.{decimal-length}

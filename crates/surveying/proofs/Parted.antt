@@ -6,7 +6,7 @@ use native.Mathlib.Numerals.{add-one}
 use native.Mathlib.Omega.{arith}
 use lib.ListN.{length, getD, drop, drop-of-length-le}
 use lib.Seq.{drop-cons}
-use Rattle.survey_text.specs.Bytes.{comma}
+use Rattle.text_lines.specs.Bytes.{comma}
 use Rattle.survey_text.specs.Printing.{parted}
 use Rattle.surveying.specs.Buffers.{Room, Written}
 use Rattle.surveying.proofs.Written.{Writing, writing-room, writing-more}

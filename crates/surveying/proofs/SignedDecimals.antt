@@ -12,7 +12,7 @@ use mir.Val.{SFits, toZ, ofZ}
 use mir.ValLaws.{toZ-ofZ, toZ-pos}
 use borrow.Author.Tests.{ltb-true}
 use Rattle.basics.proofs.Integers.{widened}
-use Rattle.survey_text.specs.Bytes.{minus}
+use Rattle.text_lines.specs.Bytes.{minus}
 use Rattle.survey_text.specs.Printing.{decimal, signedDecimal}
 
 pub below-zero : (v : ℤ) → ltZ v (pos 0) ≡ true → signedDecimal v ≡ (minus ∷ []) ++ decimal (natAbs v)

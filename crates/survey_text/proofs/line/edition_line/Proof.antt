@@ -3,8 +3,8 @@ use borrow.Author.Needs.{needs}
 use native.Mathlib.Omega.{arith}
 use Prim.Native.Nat.{_≤_, _<_}
 use lib.ListN.{length}
-use Rattle.survey_text.specs.Bytes.{bytes}
-use Rattle.survey_text.specs.Format.{edition}
+use Rattle.text_lines.specs.Bytes.{bytes}
+use Rattle.text_lines.specs.Format.{edition}
 use Rattle.survey_text.specs.Reading.{editionLine}
 use Rattle.survey_text.proofs.Steps.{handed-on, step-no-name, step-no-value, step-value}
 use Rattle.survey_text.proofs.line.edition_line.Statement.{statement}

@@ -4,7 +4,7 @@ use borrow.Author.Tests.{not-true, not-false}
 use native.Mathlib.Omega.{arith}
 use Prim.Native.Nat.{_≤_, _<_}
 use lib.ListN.{length}
-use Rattle.survey_text.specs.Format.{list}
+use Rattle.text_lines.specs.Format.{list}
 use Rattle.survey_text.proofs.Steps.{handed-on, step-no-name, step-no-value, step-value}
 use Rattle.survey_text.proofs.line.list_line.Statement.{statement}
 use Rattle.survey_text.proofs.line.list_line.Tie as tie
@@ -61,7 +61,7 @@ returns-3 c = let l = c .before .before .before .before in
     let b = v .before .before .before .before .before .before in
     rw (c .refuse2 .ensures)
     (step-no-value (b .args .s .now) (b .args .name .now) (list (length (b .args .out .now))) (b .args .c) (b .pre) (v .before .if1 .left) _ _
-    (rw (f .found .given .1) at (v .value-at .ensures .0)) _ (rw (not-true (l .list-in .result) (c .before .if2 .taken)) at (l .list-in .ensures)))
+    (rw (f .found .given .1) at (v .value-at .ensures .0)) _ (rw (not-true (l .list-in .result) (c .before .if2 .taken)) at (l .list-in .ensures .0)))
 
 add-t10 : tie.Need-add-t10
 add-t10 c = record { fits = omega (arith, inside (c .before .before .before .before .before .before .before)) }
@@ -78,7 +78,7 @@ returns-4 c = let l = c .before .before .before .before in
     let v = f .before .before in
     let b = v .before .before .before .before .before .before in
     step-value (b .args .s .now) (b .args .name .now) (list (length (b .args .out .now))) (b .args .c) (b .pre) (v .before .if1 .left) _ _
-    (rw (f .found .given .1) at (v .value-at .ensures .0)) _ (rw (not-false (l .list-in .result) (c .before .if2 .left)) at (l .list-in .ensures)) (inside f .0)
+    (rw (f .found .given .1) at (v .value-at .ensures .0)) _ (rw (not-false (l .list-in .result) (c .before .if2 .left)) at (l .list-in .ensures .0)) (inside f .0)
 
 pub list-line-spec : {M : Type 1} → statement M
 list-line-spec =

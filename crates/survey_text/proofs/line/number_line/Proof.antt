@@ -3,7 +3,7 @@ use borrow.Author.Needs.{needs}
 use native.Mathlib.Omega.{arith}
 use Prim.Native.Nat.{_≤_, _<_}
 use lib.ListN.{length}
-use Rattle.survey_text.specs.Format.{number}
+use Rattle.text_lines.specs.Format.{number}
 use Rattle.survey_text.proofs.Steps.{handed-on, step-no-name, step-no-value, step-value}
 use Rattle.survey_text.proofs.line.number_line.Statement.{statement}
 use Rattle.survey_text.proofs.line.number_line.Tie as tie

@@ -3,7 +3,7 @@ use borrow.Author.Needs.{needs}
 use mir.Syntax.{w16}
 use mir.ValLaws.{toZ-ofZ}
 use mathlib.Core.List.{[], _∷_, _++_}
-use Rattle.survey_text.specs.Bytes.{bytes, newline}
+use Rattle.text_lines.specs.Bytes.{bytes, newline}
 use Rattle.survey_text.specs.Printing.{signedDecimal, line, levelLine}
 use Rattle.surveying.specs.Buffers.{Room, Written}
 use Rattle.surveying.proofs.Written.{room-one, room-two, room-three, written-three}

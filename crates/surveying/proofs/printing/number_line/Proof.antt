@@ -1,7 +1,7 @@
 -- `number_line` writes a line with a number: three writes in a row are one.
 use borrow.Author.Needs.{needs}
 use mathlib.Core.List.{[], _∷_, _++_}
-use Rattle.survey_text.specs.Bytes.{newline}
+use Rattle.text_lines.specs.Bytes.{newline}
 use Rattle.survey_text.specs.Printing.{decimal, line}
 use Rattle.surveying.specs.Buffers.{Room}
 use Rattle.surveying.proofs.Written.{room-one, room-two, room-three, written-three}

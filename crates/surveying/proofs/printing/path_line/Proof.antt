@@ -1,7 +1,7 @@
 -- `path_line` writes the path's line: three writes in a row are one.
 use borrow.Author.Needs.{needs}
 use mathlib.Core.List.{[], _∷_, _++_, map}
-use Rattle.survey_text.specs.Bytes.{bytes, newline}
+use Rattle.text_lines.specs.Bytes.{bytes, newline}
 use Rattle.survey_text.specs.Printing.{decimal, parted, line, pathLine}
 use Rattle.surveying.specs.Buffers.{Room}
 use Rattle.surveying.proofs.Written.{room-one, room-two, room-three, written-three}

@@ -2,7 +2,7 @@
 use Prim.Native.Nat.{ℕ}
 use borrow.Author.Needs.{needs}
 use mathlib.Core.List.{List, _++_}
-use Rattle.survey_text.specs.Bytes.{bytes}
+use Rattle.text_lines.specs.Bytes.{bytes}
 use Rattle.survey_text.specs.Printing.{decimal, line, refusalText}
 use Rattle.surveying.specs.Buffers.{Room}
 use Rattle.surveying.proofs.Written.{room-first, room-then, written-then}

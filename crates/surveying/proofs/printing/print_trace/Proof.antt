@@ -4,7 +4,7 @@ use mir.Syntax.{w16}
 use mir.ValLaws.{toZ-ofZ}
 use borrow.Author.Needs.{needs}
 use mathlib.Core.List.{List, _++_}
-use Rattle.survey_text.specs.Bytes.{bytes}
+use Rattle.text_lines.specs.Bytes.{bytes}
 use Rattle.survey_text.specs.Printing.{decimal, line, levelLine, pathLine, traceText}
 use Rattle.surveying.specs.Buffers.{Room, Written}
 use Rattle.surveying.proofs.Written.{room-one, room-two, room-three, written-three}

@@ -2,7 +2,7 @@
 use borrow.Author.Needs.{needs}
 use native.Mathlib.Omega.{arith}
 use mathlib.Core.List.{List, [], _∷_, _++_}
-use Rattle.survey_text.specs.Bytes.{zeroDigit}
+use Rattle.text_lines.specs.Bytes.{zeroDigit}
 use Rattle.survey_text.specs.Printing.{decimal}
 use Rattle.surveying.specs.Buffers.{Room}
 use Rattle.surveying.proofs.Decimals.{decimal-one, decimal-more}

@@ -7,7 +7,7 @@ use lib.IntN.{pos, natAbs}
 use lib.Signed.{ltZ}
 use mir.Syntax.{w16}
 use mir.ValLaws.{toZ-ofZ}
-use Rattle.survey_text.specs.Bytes.{minus}
+use Rattle.text_lines.specs.Bytes.{minus}
 use Rattle.survey_text.specs.Printing.{decimal}
 use Rattle.surveying.specs.Buffers.{Room}
 use Rattle.surveying.proofs.SignedDecimals.{below-zero, not-below-zero}

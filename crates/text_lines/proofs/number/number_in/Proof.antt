@@ -6,10 +6,10 @@ use mathlib.Core.Path.{_≡_, refl, sym, _∙_}
 use mathlib.Core.Bool.{true}
 use Prim.Native.Nat.{_≤_, _<_, _-_, _^_}
 use lib.ListN.{length, getD, drop}
-use Rattle.survey_text.specs.Format.{isDigit, valueAfter, number}
-use Rattle.survey_text.proofs.Digits.{digit-range, valued-more, valued-stop, valued-end, number-sized, ten-more, ten-small}
-use Rattle.survey_text.proofs.number.number_in.Statement.{statement}
-use Rattle.survey_text.proofs.number.number_in.Tie as tie
+use Rattle.text_lines.specs.Format.{isDigit, valueAfter, number}
+use Rattle.text_lines.proofs.Digits.{digit-range, valued-more, valued-stop, valued-end, number-sized, ten-more, ten-small}
+use Rattle.text_lines.proofs.number.number_in.Statement.{statement}
+use Rattle.text_lines.proofs.number.number_in.Tie as tie
 
 abbrev Inv-loop : tie.InvT-loop
 Inv-loop s v₀ i₀ v i = (i ≤ length s) × (v < 10 ^ i) × (valueAfter 0 s ≡ valueAfter v (drop i s))

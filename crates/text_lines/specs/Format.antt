@@ -1,5 +1,5 @@
--- Document 01, section 6: the format of a plate's text, as lists of bytes, in both editions (document 02, N5). A part that does not have its form is
--- `none`, malformed.
+-- Document 01, section 6: the form of a line of a plate's text, and of the numbers, editions and lists that stand on it, as lists of bytes, in both
+-- editions (document 02, N5). A part that does not have its form is `none`, malformed. Which lines a text has: survey_text/specs/Reading.antt.
 use Prim.Native.Nat.{ℕ, zero, suc, _+_, _-_, _*_}
 use mathlib.Core.Bool.{Bool, cond, _&&_}
 use mathlib.Core.List.{List, [], _∷_}
@@ -7,7 +7,7 @@ use mathlib.Core.Option.{Option, none, some}
 use lib.Dec.{ltb, leb, eqb}
 use lib.ListN.{length, take, drop}
 use Rattle.basics.specs.Lists.{firstOf}
-use Rattle.survey_text.specs.Bytes.{newline, comma, zeroDigit}
+use Rattle.text_lines.specs.Bytes.{newline, comma, zeroDigit}
 
 -- is it this byte?
 unfoldable pub is : ℕ → ℕ → Bool

@@ -6,9 +6,9 @@ use mathlib.Core.Path.{sym}
 use Prim.Native.Nat.{_≤_, _-_}
 use lib.ListN.{length}
 use Rattle.basics.proofs.Lists.{Passed, passed-none, passed-miss, passed-hit, passed-end}
-use Rattle.survey_text.specs.Format.{is}
-use Rattle.survey_text.proofs.line.find.Statement.{statement}
-use Rattle.survey_text.proofs.line.find.Tie as tie
+use Rattle.text_lines.specs.Format.{is}
+use Rattle.text_lines.proofs.value.find.Statement.{statement}
+use Rattle.text_lines.proofs.value.find.Tie as tie
 
 abbrev Inv-loop : tie.InvT-loop
 Inv-loop b s i₀ i = (i ≤ length s) × Passed (is b) s i

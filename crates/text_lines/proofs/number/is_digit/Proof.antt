@@ -1,8 +1,8 @@
 -- `is_digit` is the test of the format.
 use borrow.Author.Tests.{le-leb, lt-leb}
-use Rattle.survey_text.specs.Format.{isDigit}
-use Rattle.survey_text.proofs.number.is_digit.Statement.{statement}
-use Rattle.survey_text.proofs.number.is_digit.Tie as tie
+use Rattle.text_lines.specs.Format.{isDigit}
+use Rattle.text_lines.proofs.number.is_digit.Statement.{statement}
+use Rattle.text_lines.proofs.number.is_digit.Tie as tie
 
 returns : tie.Need-returns
 unfolding isDigit

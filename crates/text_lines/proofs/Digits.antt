@@ -14,8 +14,8 @@ use lib.ListN.{length, getD, drop, drop-of-length-le}
 use lib.Seq.{drop-cons}
 use borrow.Author.Tests.{leb-true, le-leb, eq-eqb, ne-eqb}
 use Rattle.basics.proofs.Tests.{true-or-false, and-both, true-T, T-true}
-use Rattle.survey_text.specs.Bytes.{zeroDigit}
-use Rattle.survey_text.specs.Format.{_>>=_, maxDigits, maxNumber, is, isDigit, valueAfter, number, edition}
+use Rattle.text_lines.specs.Bytes.{zeroDigit}
+use Rattle.text_lines.specs.Format.{_>>=_, maxDigits, maxNumber, is, isDigit, valueAfter, number, edition}
 
 pub digit-range : (b : ℕ) → isDigit b ≡ true → (48 ≤ b) × (b ≤ 57)
 unfolding isDigit

@@ -8,11 +8,11 @@ use lib.ListN.{length, drop, length-drop}
 use lib.Seq.{take-all}
 use Rattle.basics.specs.Lists.{firstOf}
 use Rattle.basics.proofs.Lists.{firstOf-le}
-use Rattle.survey_text.specs.Bytes.{newline}
-use Rattle.survey_text.specs.Format.{is}
-use Rattle.survey_text.proofs.Lines.{no-line, other-name, the-value, name-fits, missing}
-use Rattle.survey_text.proofs.line.value_at.Statement.{statement}
-use Rattle.survey_text.proofs.line.value_at.Tie as tie
+use Rattle.text_lines.specs.Bytes.{newline}
+use Rattle.text_lines.specs.Format.{is}
+use Rattle.text_lines.proofs.Lines.{no-line, other-name, the-value, name-fits, missing}
+use Rattle.text_lines.proofs.value.value_at.Statement.{statement}
+use Rattle.text_lines.proofs.value.value_at.Tie as tie
 
 returns : tie.Need-returns
 returns c = let b = c .before .before .before in (sym (missing (b .args .s .now) (b .args .name .now) (b .args .at) (c .if1 .taken)), tt)

@@ -1,9 +1,9 @@
 -- `edition_in` looks for one byte, and whether it is the digit 1 or 2: each return is a law of editions.
 use borrow.Author.Needs.{needs}
 use mathlib.Core.Path.{sym}
-use Rattle.survey_text.proofs.Digits.{edition-sized, edition-one, edition-two, edition-none}
-use Rattle.survey_text.proofs.number.edition_in.Statement.{statement}
-use Rattle.survey_text.proofs.number.edition_in.Tie as tie
+use Rattle.text_lines.proofs.Digits.{edition-sized, edition-one, edition-two, edition-none}
+use Rattle.text_lines.proofs.number.edition_in.Statement.{statement}
+use Rattle.text_lines.proofs.number.edition_in.Tie as tie
 
 returns : tie.Need-returns
 returns c = sym (edition-sized _ (c .if1 .taken))

@@ -1,9 +1,9 @@
 // Numbers, editions, and lists of numbers parted by commas.
 ghost use mathlib.Core.Path.{_≡_};
 ghost use lib.ListN.{length};
-ghost use Rattle.survey_text.specs.Format.{isDigit, number, edition, list};
-ghost use Rattle.survey_text.specs.Within.{numberRead, whether};
-use crate::line::find;
+ghost use Rattle.text_lines.specs.Format.{isDigit, number, edition, parts, list};
+ghost use Rattle.text_lines.specs.Answers.{numberRead, whether, filledBy};
+use crate::value::find;
 
 // The largest count of digits, and the largest number (document 01, section 6).
 const MAX_DIGITS: usize = 6;
@@ -12,7 +12,7 @@ const MAX_NUMBER: usize = 65535;
 
 const BASE: usize = 10;
 
-pub(crate) enum Number {
+pub enum Number {
     Is(usize),
     Bad,
 }
@@ -27,7 +27,7 @@ fn is_digit(b: u8) -> bool
 }
 
 // The number that these bytes are.
-pub(crate) fn number_in(s: &[u8]) -> Number
+pub fn number_in(s: &[u8]) -> Number
     ensures { λ r. ⌜ numberRead r ≡ number (now (s .entry)) ⌝ }
 {
     if s.len() < 1 {
@@ -52,7 +52,7 @@ pub(crate) fn number_in(s: &[u8]) -> Number
 }
 
 // The edition of the format that these bytes are: a single 1 or 2.
-pub(crate) fn edition_in(s: &[u8]) -> Number
+pub fn edition_in(s: &[u8]) -> Number
     ensures { λ r. ⌜ numberRead r ≡ edition (now (s .entry)) ⌝ }
 {
     if s.len() != 1 {
@@ -67,9 +67,11 @@ pub(crate) fn edition_in(s: &[u8]) -> Number
     Number::Bad
 }
 
-// Fills out with the numbers that these bytes list, if they are as many as it has places for.
-pub(crate) fn list_in(s: &[u8], out: &mut [u16]) -> bool
+// Fills out with the numbers that these bytes list, and says whether they are a list of as many as it has
+// places for.
+pub fn list_in(s: &[u8], out: &mut [u16]) -> bool
     ensures { λ r. ⌜ whether r (now (out .exit)) ≡ list (length (now (out .entry))) (now (s .entry)) ⌝ }
+    ensures { λ r. ⌜ now (out .exit) ≡ filledBy (parts (now (s .entry))) (now (out .entry)) ⌝ }
 {
     let mut from = 0;
     let mut k = 0;

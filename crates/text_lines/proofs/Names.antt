@@ -8,7 +8,7 @@ use native.Mathlib.Omega.{arith}
 use lib.ListN.{length, getD, drop, drop-of-length-le}
 use lib.Seq.{drop-cons}
 use borrow.Author.Tests.{eq-eqb, ne-eqb}
-use Rattle.survey_text.specs.Format.{is, after}
+use Rattle.text_lines.specs.Format.{is, after}
 
 module _ (name s : List ℕ) (i : ℕ) (walk : after name s ≡ after (drop i name) (drop i s)) where
   -- the next bytes are the same

@@ -6,12 +6,12 @@ use Prim.Native.Nat.{_+_, _-_, _≤_, _<_}
 use lib.ListN.{length, drop, length-drop, length-set}
 use lib.Seq.{take-all}
 use Rattle.basics.specs.Lists.{firstOf}
-use Rattle.survey_text.specs.Bytes.{comma}
-use Rattle.survey_text.specs.Format.{is}
-use Rattle.survey_text.proofs.Digits.{number-small}
-use Rattle.survey_text.proofs.Parts.{Listing, listing-none, listing-full, part-fits, listing-bad, listing-last, listing-more}
-use Rattle.survey_text.proofs.number.list_in.Statement.{statement}
-use Rattle.survey_text.proofs.number.list_in.Tie as tie
+use Rattle.text_lines.specs.Bytes.{comma}
+use Rattle.text_lines.specs.Format.{is}
+use Rattle.text_lines.proofs.Digits.{number-small}
+use Rattle.text_lines.proofs.Parts.{Listing, listing-none, listing-full, part-fits, listing-bad, listing-last, listing-more}
+use Rattle.text_lines.proofs.number.list_in.Statement.{statement}
+use Rattle.text_lines.proofs.number.list_in.Tie as tie
 
 abbrev Inv-loop : tie.InvT-loop
 Inv-loop s out₀ from₀ k₀ out from k = Listing s out₀ out from k

@@ -4,10 +4,10 @@ use native.Mathlib.Omega.{arith}
 use mathlib.Core.Path.{_≡_, refl, sym}
 use Prim.Native.Nat.{_≤_, _-_}
 use lib.ListN.{length, drop}
-use Rattle.survey_text.specs.Format.{after}
-use Rattle.survey_text.proofs.Names.{after-more, after-short, after-other, after-end}
-use Rattle.survey_text.proofs.line.begins.Statement.{statement}
-use Rattle.survey_text.proofs.line.begins.Tie as tie
+use Rattle.text_lines.specs.Format.{after}
+use Rattle.text_lines.proofs.Names.{after-more, after-short, after-other, after-end}
+use Rattle.text_lines.proofs.value.begins.Statement.{statement}
+use Rattle.text_lines.proofs.value.begins.Tie as tie
 
 abbrev Inv-loop : tie.InvT-loop
 Inv-loop s name i₀ i = (i ≤ length name) × (after name s ≡ after (drop i name) (drop i s))

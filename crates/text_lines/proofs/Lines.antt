@@ -11,8 +11,8 @@ use borrow.Author.Tests.{lt-ltb, le-ltb}
 use Rattle.basics.specs.Lists.{firstOf}
 use Rattle.basics.proofs.Lists.{drop-take}
 use Rattle.basics.proofs.Tests.{true-or-false}
-use Rattle.survey_text.specs.Bytes.{newline}
-use Rattle.survey_text.specs.Format.{is, nextLine, after, named}
+use Rattle.text_lines.specs.Bytes.{newline}
+use Rattle.text_lines.specs.Format.{is, nextLine, after, named}
 
 -- a name that a line begins with is no longer than the line
 pub after-fits : (name l v : List ℕ) → after name l ≡ some v → length name ≤ length l
