@@ -8,8 +8,8 @@ use mathlib.Core.Logic.{⊎-elim}
 use native.Mathlib.Numerals.{add-one}
 use native.Mathlib.Omega.{arith}
 use lib.Dec.{T}
-use lib.ListN.{length, getD, take, drop, set, replicate, length-append, length-drop, drop-of-length-le, List·getD-append}
-use lib.Seq.{drop-cons, take-suc, set-at, append-snoc, length-take-le, take-all, take-nil, getD-append-add, getD-take, getD-drop}
+use lib.ListN.{length, getD, take, drop, set, replicate, drop-of-length-le}
+use lib.Seq.{drop-cons, take-suc, set-at, append-snoc, length-take-le, take-all, take-nil}
 use Rattle.basics.specs.Lists.{any, keep, firstOf, upFrom}
 use Rattle.basics.proofs.Numbers.{le-or-lt}
 use Rattle.basics.proofs.Tests.{true-or-false, T-true, true-T, or-cases, or-left, or-right}
@@ -225,41 +225,6 @@ pub replicate-default : {A : Type 0} (n k : ℕ) (d : A) → getD (replicate n d
 replicate-default zero k d = refl
 replicate-default (suc n) zero d = refl
 replicate-default (suc n) (suc k) d = replicate-default n k d
-
--- ---- a stretch of a list replaced: within it the new elements stand, before and after it the old ones
-
-module _ {A : Type 0} (xs ys : List A) (at k : ℕ) (d : A) (fits : at + k ≤ length xs) (size : length ys ≡ k) where
-  past-start : (i : ℕ) → getD (take at xs ++ (ys ++ drop k (drop at xs))) (at + i) d ≡ getD (ys ++ drop k (drop at xs)) i d
-  past-start i =
-      ap (λ (n : ℕ). getD (take at xs ++ (ys ++ drop k (drop at xs))) (n + i) d) (sym (length-take-le at xs (omega arith)))
-      ∙ getD-append-add (take at xs) (ys ++ drop k (drop at xs)) i d
-
-  pub replaced-inside : (i : ℕ) → i < k → getD (take at xs ++ (ys ++ drop k (drop at xs))) (at + i) d ≡ getD ys i d
-  replaced-inside i h = past-start i ∙ List·getD-append ys (drop k (drop at xs)) d i (omega arith)
-
-  pub replaced-under : (q : ℕ) → q < at → getD (take at xs ++ (ys ++ drop k (drop at xs))) q d ≡ getD xs q d
-  replaced-under q h =
-      List·getD-append (take at xs) (ys ++ drop k (drop at xs)) d q (omega (arith, length-take-le at xs (omega arith))) ∙ getD-take at xs q d h
-
-  past-end : (r : ℕ) → getD (take at xs ++ (ys ++ drop k (drop at xs))) (at + (k + r)) d ≡ getD xs (at + (k + r)) d
-  past-end r =
-      past-start (k + r)
-      ∙ ap (λ (n : ℕ). getD (ys ++ drop k (drop at xs)) (n + r) d) (sym size)
-      ∙ getD-append-add ys (drop k (drop at xs)) r d
-      ∙ getD-drop k (drop at xs) r d
-      ∙ getD-drop at xs (k + r) d
-
-  pub replaced-over : (q : ℕ) → at + k ≤ q → getD (take at xs ++ (ys ++ drop k (drop at xs))) q d ≡ getD xs q d
-  replaced-over q h = let e : at + (k + (q - (at + k))) ≡ q = omega arith in rw e at (past-end (q - (at + k)))
-
-  pub replaced-length : length (take at xs ++ (ys ++ drop k (drop at xs))) ≡ length xs
-  replaced-length =
-      simp (length-append, length-drop) (omega (arith, length-take-le at xs (omega arith)))
-
--- a stretch of a list, by its places in the whole
-pub stretch-at : {A : Type 0} (xs : List A) (at k i : ℕ) (d : A) → i < k → getD (take k (drop at xs)) i d ≡ getD xs (at + i) d
-stretch-at xs at k i d h = getD-take k (drop at xs) i d h ∙ getD-drop at xs i d
-
 -- ---- the rest of a front part is a front part of the rest
 
 pub drop-take : {A : Type 0} (k n : ℕ) (l : List A) → drop k (take n l) ≡ take (n - k) (drop k l)

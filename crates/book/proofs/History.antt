@@ -1,22 +1,21 @@
 -- For every list of calls from an empty book: what stands for a key, how many stand, and the serial numbers that were given. The invariant of one call
 -- more is `Steady`; books that real calls handed on go by the same two laws.
 use Prim.Native.Nat.{ℕ, _+_, _≤_}
-use mathlib.Core.Path.{_≡_, refl, sym, ap, _∙_, subst}
-use mathlib.Core.Bool.{Bool, false, not}
+use mathlib.Core.Path.{_≡_, refl, sym, subst}
+use mathlib.Core.Bool.{not}
 use mathlib.Core.List.{List, [], _∷_, _++_}
 use native.Mathlib.Numerals.{add-one}
 use native.Mathlib.Omega.{arith}
-use lib.ListN.{length, take, length-append}
+use lib.ListN.{length-append}
 use lib.Seq.{take-append-seam}
 use lib.IntN.{ℤ}
 use borrow.Author.Tests.{ltb-false}
-use Rattle.basics.specs.Lists.{keep}
 use Rattle.basics.proofs.Keeping.{keep-shorter}
 use Rattle.plate.specs.Refusals.{Verdict, Verdict.accepted, Verdict.refused, Clear}
 use Rattle.plate.proofs.Verdicts.{accepted-clear}
 use Rattle.book.specs.Entries.{maxEntries, isMeant, others, entryOf, standing, bookOf}
-use Rattle.book.specs.Refusals.{overfull, entryChecks, entered, enterVerdict, withdrawChecks, withdrawn, withdrawVerdict, handedBack}
-use Rattle.book.specs.History.{Call, Call.enter, Call.withdraw, Event, Event.entering, Event.withdrawing, verdictOf, eventOf, eventsAfter, Lived, step, run, unused, serialsGiven, downFrom, Accounted}
+use Rattle.book.specs.Refusals.{entryChecks, entered, enterVerdict, withdrawChecks, withdrawn, withdrawVerdict, handedBack}
+use Rattle.book.specs.History.{Call, Call.enter, Call.withdraw, Event, Event.entering, Event.withdrawing, eventsAfter, Lived, step, run, unused, serialsGiven, downFrom, Accounted}
 use Rattle.book.specs.declared.entry.Key.{Key}
 use Rattle.book.specs.declared.entry.Entry.{Entry}
 use Rattle.book.specs.declared.target.Target.the-variants.{OfKey, OfSerial}

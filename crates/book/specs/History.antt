@@ -6,7 +6,6 @@ use mathlib.Core.Path.{_≡_}
 use mathlib.Core.Bool.{Bool, cond}
 use mathlib.Core.List.{List, [], _∷_}
 use lib.IntN.{ℤ}
-use lib.ListN.{length}
 use Rattle.basics.specs.Lists.{any, keep}
 use Rattle.plate.specs.Refusals.{Verdict, Verdict.accepted, Verdict.refused}
 use Rattle.book.specs.Entries.{maxEntries, isMeant, entryOf, standing, bookOf}

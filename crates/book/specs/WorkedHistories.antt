@@ -4,8 +4,7 @@ use Prim.Native.Nat.{ℕ, suc, _-_}
 use mathlib.Core.Bool.{Bool, true, false, _&&_}
 use mathlib.Core.List.{List, [], _∷_, _++_, map}
 use lib.Dec.{eqb}
-use lib.IntN.{ℤ, pos}
-use lib.ListN.{length}
+use lib.IntN.{pos}
 use Rattle.basics.specs.Lists.{upFrom}
 use Rattle.book.specs.Entries.{maxEntries, maxSerial, entryOf, standing, bookOf}
 use Rattle.book.specs.Refusals.{handedBack}

@@ -1,6 +1,6 @@
 -- Every book that real calls handed on is accounted for: each call keeps up what every call of the definitions does.
 use mathlib.Core.Path.{sym, subst}
-use mathlib.Core.List.{List, [], _∷_}
+use mathlib.Core.List.{List, []}
 use Rattle.plate.specs.declared.setting.Setting.{Setting}
 use Rattle.plate.specs.declared.answer.Traced.{Traced}
 use Rattle.plate.specs.declared.answer.Traced.the-variants.{Path, Refused as Untraced}

@@ -1,6 +1,6 @@
 -- Which floats are whole counts of quarters: the code's test passes exactly at those that the definition counts. In the range four times x is N / D, its
 -- whole part cast back equals it where x equals the quarters, and out of the range nothing is counted.
-use Prim.Native.Nat.{ℕ, zero, _+_, _*_, _/_, _≤_, _<_}
+use Prim.Native.Nat.{ℕ, _+_, _*_, _/_, _≤_, _<_}
 use mathlib.Core.Path.{_≡_, refl, sym, ap, _∙_, subst}
 use mathlib.Core.Bool.{Bool, true, false, not, Bool·beq, _&&_, _||_}
 use native.Mathlib.Nat.{le-of-eq, le-trans, mul-one, mul-div-cancel, mul-le-mul-right, div-lt-iff-lt-mul, zero-mul, zero-div}

@@ -1,6 +1,6 @@
 -- Exact arithmetic of floats. `Equals x z c` says that the float x is the number z / c. The sum of two such floats with the same c, the difference
 -- and the half are z / c again, as long as they have no more than 24 digits: what is rounded is then the number itself.
-use Prim.Native.Nat.{ℕ, zero, suc, _+_, _-_, _*_, _/_, _^_, _≤_, _<_}
+use Prim.Native.Nat.{ℕ, zero, suc, _+_, _-_, _*_, _^_, _≤_, _<_}
 use mathlib.Core.Path.{_≡_, refl, sym, ap, _∙_, subst}
 use mathlib.Core.Bool.{Bool, true, false, not, cond, Bool·beq, _&&_, _||_}
 use native.Mathlib.Nat.{le-of-eq, le-antisymm, lt-of-lt-of-le, mul-assoc, mul-pos, sub-eq-zero-of-le, mul-comm, mul-right-comm, mul-left-comm, mul-one, mul-sub, add-mul, zero-mul, mul-lt-mul-of-pos-right, lt-of-mul-lt-mul-right}

@@ -5,8 +5,7 @@ use mathlib.Core.Path.{_≡_, refl, sym, _∙_, subst}
 use mathlib.Core.Bool.{Bool, true, false, cond, true≢false}
 use mathlib.Core.Logic.{inl, inr}
 use native.Mathlib.Omega.{arith}
-use lib.Dec.{leb}
-use borrow.Author.Tests.{le-leb, lt-leb, leb-true}
+use borrow.Author.Tests.{le-leb, lt-leb}
 use Rattle.basics.proofs.Numbers.{le-or-lt, rows-fit}
 use Rattle.plans.specs.Plans.{lineOf, firstIn, pastIn, keysOf, orderOf, rowLo, rowHi, rowsIn, seenLo, seenHi, keysSize, RowFits, Readable, Sound}
 use Rattle.plans.specs.Forms.{originOf}

@@ -51,11 +51,6 @@ numbers-more f old new lo hi n v b o l e s =
 pub between-ends : (f : ℕ → ℕ) (old new : List ℕ) (lo hi n : ℕ) → Between f old new lo hi → hi ≡ n → Between f old new lo n
 between-ends f old new lo hi n b e = subst (λ (m : ℕ). Between f old new lo m) e b
 
--- the same numbers by another rule
-pub between-by :
-    (f g : ℕ → ℕ) (old new : List ℕ) (lo hi : ℕ) → Between f old new lo hi → ((k : ℕ) → f k ≡ g k) → Between g old new lo hi
-between-by f g old new lo hi b e = record { inside = λ k a h. b .inside k a h ∙ e k; under = b .under; over = b .over; len = b .len }
-
 -- ---- runs that are read while another one is written
 
 -- a place that a run apart from the written one has is as it was

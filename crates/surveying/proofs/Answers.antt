@@ -1,16 +1,16 @@
 -- The whole answer: the plate's lines and the trace's are one write, and what stands at the front of the buffer is the answer to the text.
-use Prim.Native.Nat.{ℕ, _+_, _*_, _^_, _<_, _≤_}
-use mathlib.Core.Path.{_≡_, refl, sym, ap, subst, _∙_}
+use Prim.Native.Nat.{ℕ, _+_, _^_, _<_, _≤_}
+use mathlib.Core.Path.{_≡_, sym, ap, subst, _∙_}
 use mathlib.Core.List.{List, [], _++_}
 use native.Mathlib.Omega.{arith}
 use lib.IntN.{ℤ}
 use lib.ListN.{length, take, drop, length-append}
 use lib.Seq.{take-at, drop-append-add}
-use Rattle.plate.specs.Refusals.{Verdict, Verdict.accepted, Verdict.refused}
+use Rattle.plate.specs.Refusals.{Verdict.accepted, Verdict.refused}
 use Rattle.plate.proofs.Sizes.{good-size}
-use Rattle.survey_text.specs.Reading.{_>>=_, maxPlate}
+use Rattle.survey_text.specs.Reading.{_>>=_}
 use Rattle.survey_text.specs.Printing.{outText, traceText, refusalText}
-use Rattle.survey_text.specs.Survey.{Survey, requested, traced, filteredPlate, printed, surveyText, answer, Answered}
+use Rattle.survey_text.specs.Survey.{Survey, requested, traced, filteredPlate, printed, surveyText, answer}
 use Rattle.surveying.specs.Buffers.{placed, Room, Written}
 use Rattle.survey_text.proofs.Verdicts.{accepted-same}
 use Rattle.surveying.proofs.Written.{written-then}

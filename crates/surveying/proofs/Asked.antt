@@ -1,19 +1,19 @@
 -- What a text that is accepted says of the survey that it asks for: its size is good and small, and its setting is within the limits.
 use Prim.Native.Nat.{ℕ, _*_}
 use native.Mathlib.Omega.{arith}
-use mathlib.Core.Path.{_≡_, sym, ap, subst, _∙_}
-use mathlib.Core.Bool.{Bool, true, false, not}
+use mathlib.Core.Path.{_≡_, sym, subst, _∙_}
+use mathlib.Core.Bool.{true, false, not}
 use mathlib.Core.Logic.{⊎-elim}
-use mathlib.Core.List.{List, [], _∷_, zipWith}
+use mathlib.Core.List.{List, [], _∷_}
 use lib.IntN.{pos}
-use lib.Dec.{eqb, ltb}
+use lib.Dec.{eqb}
 use lib.ListN.{length, getD}
-use borrow.Author.Tests.{ltb-false, ne-eqb, eqb-true}
+use borrow.Author.Tests.{ltb-false, eqb-true}
 use Rattle.basics.specs.Lists.{firstOf}
 use Rattle.basics.proofs.Tests.{true-or-false}
 use Rattle.basics.proofs.Lists.{none-passes, zipWith-length, zipWith-at}
 use Rattle.plate.specs.Levels.{corrected, correctedPlate}
-use Rattle.plate.specs.Refusals.{Verdict, Verdict.accepted, Check, Clear, badReading, badCorrection, sizeCheck, inputCheck, resultCheck, readingsCheck, correctionsCheck, correctionVerdict, settingVerdict}
+use Rattle.plate.specs.Refusals.{Verdict.accepted, Check, Clear, badReading, badCorrection, sizeCheck, inputCheck, resultCheck, readingsCheck, correctionsCheck, correctionVerdict, settingVerdict}
 use Rattle.plate.proofs.Verdicts.{accepted-clear}
 use Rattle.plate.specs.declared.setting.Setting.{Setting}
 use Rattle.correction.proofs.CorrectedLevels.{corrected-fits}

@@ -1,6 +1,6 @@
 -- The filtered plate of a survey has levels of 16 bits, as the plate has.
 use Prim.Native.Nat.{ℕ, _<_}
-use mathlib.Core.Path.{subst, sym}
+use mathlib.Core.Path.{subst}
 use mathlib.Core.List.{List}
 use lib.IntN.{ℤ, pos}
 use lib.Signed.{mag}

@@ -1,7 +1,7 @@
 -- How long the printed lines are. Numbers are counted by their digits, lists by their elements with a comma each and rows by their levels, so that a
 -- buffer of a fixed size has room for every answer.
 use Prim.Native.Nat.{ℕ, zero, suc, _+_, _*_, _^_, _≤_, _<_}
-use mathlib.Core.Path.{_≡_, ap}
+use mathlib.Core.Path.{_≡_}
 use mathlib.Core.List.{List, [], _∷_, _++_, map, flatMap}
 use native.Mathlib.Nat.{suc-mul, mul-le-mul-right, mul-comm, mul-add, mul-assoc}
 use native.Mathlib.Omega.{arith}

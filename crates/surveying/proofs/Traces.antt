@@ -6,7 +6,7 @@ use native.Mathlib.Omega.{arith}
 use lib.IntN.{ℤ}
 use lib.ListN.{getD}
 use Rattle.basics.proofs.Lists.{getD-in}
-use Rattle.plate.specs.Refusals.{Verdict, Verdict.accepted, Verdict.refused}
+use Rattle.plate.specs.Refusals.{Verdict.accepted, Verdict.refused}
 use Rattle.plate.specs.Answers.{tracedLevel, traceAfter}
 use Rattle.plate.specs.declared.answer.Traced.{Traced}
 use Rattle.plate.specs.declared.answer.Traced.the-variants.{Path, Refused as Untraced}

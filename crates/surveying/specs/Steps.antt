@@ -1,12 +1,12 @@
 -- Cited by the contracts of private functions alone: what a survey has to fulfil before the filter and the trace, and what was written of its answer.
-use Prim.Native.Nat.{ℕ, _+_, _*_, _≤_, _<_}
+use Prim.Native.Nat.{ℕ, _*_, _≤_, _<_}
 use mathlib.Core.Path.{_≡_}
 use mathlib.Core.Bool.{false}
 use mathlib.Core.List.{List}
 use lib.IntN.{ℤ, pos}
 use lib.ListN.{length, getD}
 use lib.Signed.{mag}
-use Rattle.plate.specs.Refusals.{Verdict, Verdict.accepted, badSize, settingVerdict}
+use Rattle.plate.specs.Refusals.{Verdict.accepted, badSize, settingVerdict}
 use Rattle.plate.specs.declared.answer.Traced.{Traced}
 use Rattle.plate.specs.declared.answer.Traced.the-variants.{Path, Refused as Untraced}
 use Rattle.survey_text.specs.Reading.{_>>=_, maxPlate}
@@ -15,7 +15,6 @@ use Rattle.survey_text.specs.Survey.{Survey, traced, printed, surveyText}
 use Rattle.surveying.specs.Buffers.{Written}
 use Rattle.survey_text.specs.declared.reading.Header.{Header}
 use Rattle.surveying.specs.Surveying.{maxOutput, ShowsOf}
-use Rattle.theory.specs.Modes.{Levels}
 
 -- numbers of work for the largest plate and the most gaps
 abbrev pub maxWork : ℕ

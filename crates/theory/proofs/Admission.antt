@@ -108,9 +108,6 @@ module _ (s : Setting) where
 
   -- ---- what follows
 
-  pub admitted-antitone : (f : List ℤ) (t u : ℤ) (path : List ℕ) → t ≤ℤ u → T (admits s f u path) → T (admits s f t path)
-  admitted-antitone f t u path h = admitted-fewer f f u t path (λ p i l. <ℤ-≤ℤ-trans l h)
-
   pub admitted-monotone :
       (f g : List ℤ) (t : ℤ) (path : List ℕ) → ((p : ℕ) → List·Memᴰ p path → levelAt f p ≤ℤ levelAt g p) →
       T (admits s f t path) → T (admits s g t path)

@@ -1,7 +1,7 @@
 -- Walks by level sets: the recursion that the engine computes, formula (3) of source 001 taken on keys, finds just the walks that are there.
 -- 'Some walk counts at t' is one number a pixel, `bestWalk`, since a walk that counts at a key counts at every lower one; 0 also stands for 'no walk'.
 -- Over any function `next`, forwards or backwards, and any keys of 16 bits. At the end stands what a program that computes it uses.
-use Prim.Native.Nat.{ℕ, zero, suc, _≤_, _<_, min, max}
+use Prim.Native.Nat.{ℕ, zero, suc, _≤_, _<_}
 use mathlib.Core.Path.{_≡_, refl}
 use mathlib.Core.List.{List, [], _∷_, List·Memᴰ, List·Memᴰ·head, List·Memᴰ·tail}
 use mathlib.Core.Logic.{⊎-elim}
@@ -100,19 +100,6 @@ module _ (slack : ℕ) (next : ℕ → List ℕ) (g : ℕ → ℕ) (t : ℕ) whe
 -- ---- for a program that computes it: the recursion step by step, and what need not be visited
 
 module _ (slack : ℕ) (next : ℕ → List ℕ) (g : ℕ → ℕ) where
-  pub reach-start : (p : ℕ) → bestWalk slack next g 0 0 p ≡ g p
-  unfolding bestWalk alone
-  reach-start p = refl
-
-  pub reach-start-gap : (j p : ℕ) → bestWalk slack next g 0 (suc j) p ≡ ended slack (g p)
-  unfolding bestWalk alone
-  reach-start-gap j p = refl
-
-  pub reach-step : (m j p : ℕ) →
-      bestWalk slack next g (suc m) j p ≡ max (min (g p) (best (bestWalk slack next g m j) (next p))) (fewer (λ i. best (bestWalk slack next g m i) (next p)) j)
-  unfolding bestWalk
-  reach-step m j p = refl
-
   -- where no walk of m steps starts it is 0, whatever the gaps
   pub reach-none : (m j p : ℕ) → ((ps : List ℕ) → Walk next m p ps → ⊥) → bestWalk slack next g m j p ≡ 0
   reach-none m j p none = known-below (bestWalk slack next g m j p) 0

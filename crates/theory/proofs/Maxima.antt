@@ -1,13 +1,13 @@
 -- Maxima of natural numbers, over a list and over 0 to n. One number is not above a maximum exactly if it is not above one of its members, and the
 -- maximum is not above what no member is above.
-use Prim.Native.Nat.{ℕ, zero, suc, _+_, _≤_, max}
+use Prim.Native.Nat.{ℕ, zero, suc, _≤_}
 use mathlib.Core.Path.{_≡_, refl, ap}
 use mathlib.Core.List.{List, [], _∷_, List·Memᴰ, List·Memᴰ·head, List·Memᴰ·tail}
 use mathlib.Core.Logic.{⊎-elim}
 use native.Mathlib.Omega.{arith}
 use Rattle.basics.specs.Lists.{upFrom}
 use Rattle.theory.specs.BestWalks.{best, upto}
-use Rattle.basics.proofs.Numbers.{le-or-lt, le-max-split}
+use Rattle.basics.proofs.Numbers.{le-max-split}
 use Rattle.basics.proofs.Lists.{upFrom-find, upFrom-has}
 
 -- ---- over a list
@@ -55,18 +55,3 @@ upto-keep g t n i l h = best-keep g t i (upFrom-has 0 (suc n) i (omega arith) (o
 pub upto-least : (g : ℕ → ℕ) (b n : ℕ) → ((i : ℕ) → i ≤ n → g i ≤ b) → upto g n ≤ b
 unfolding upto
 upto-least g b n h = best-least g b (upFrom 0 (suc n)) (λ i j. h i (omega (arith, upFrom-find 0 (suc n) i j .1)))
-
--- one member, and one more
-pub upto-one : (g : ℕ → ℕ) → upto g 0 ≡ g 0
-upto-one g = omega (arith, upto-keep g (g 0) 0 0 (omega arith) (omega arith), upto-least g (g 0) 0 (λ i h. let e : i ≡ 0 = omega arith in omega (arith, ap g e)))
-
-pub upto-more : (g : ℕ → ℕ) (n : ℕ) → upto g (n + 1) ≡ max (g (n + 1)) (upto g n)
-upto-more g n =
-    omega (
-      arith,
-      upto-least g (max (g (n + 1)) (upto g n)) (n + 1)
-          (λ i h.
-          ⊎-elim (λ l. omega (arith, upto-keep g (g i) n i l (omega arith))) (λ l. let e : i ≡ n + 1 = omega arith in omega (arith, ap g e)) (le-or-lt i n)),
-      upto-keep g (g (n + 1)) (n + 1) (n + 1) (omega arith) (omega arith),
-      upto-least g (upto g (n + 1)) n (λ i h. upto-keep g (g i) (n + 1) i (omega arith) (omega arith)),
-    )

@@ -2,7 +2,7 @@
 -- back. So each law of the opening is one of the filter, said of turned levels.
 use Prim.Native.Nat.{ℕ, _*_, _<_}
 use mathlib.Core.Path.{_≡_, refl, sym, ap, fun-ext, _∙_}
-use mathlib.Core.Bool.{true, false, cond}
+use mathlib.Core.Bool.{true, false}
 use mathlib.Core.List.{List, map, map-id}
 use mathlib.Core.Logic.{⊎-elim}
 use native.Mathlib.Omega.{arith}

@@ -23,7 +23,7 @@ use Rattle.theory.specs.Modes.{Levels}
 use Rattle.plate.proofs.Keys.{lowest-le}
 use Rattle.theory.proofs.Listed.{places-length, places-at, through-mem, mem-through, listed-on, crossed-find, crossed-keep}
 use Rattle.theory.proofs.Highest.{highest-size, highest-not-above, highest-passes-or-lowest, passing-not-above-highest, highest-is}
-use Rattle.theory.proofs.Admission.{admitted-antitone, admitted-monotone, admitted-lowest}
+use Rattle.theory.proofs.Admission.{admitted-monotone, admitted-lowest}
 
 -- it is enough to look at the plate: past its end the level is the lowest
 pub levels-within : (f : List ℤ) → ((p : ℕ) → p < length f → mag (levelAt f p) < 32768) → Levels f
@@ -52,9 +52,6 @@ module _ (s : Setting) (W H : ℕ) where
 
   pub counts-on : {f : List ℤ} {x : ℕ} {t : ℤ} → (c : Counts s W H f x t) → (p : ℕ) → List·Memᴰ p (c .path) → p < W * H
   counts-on c = listed-on W H (s .directions) (s .length) (c .path) (c .listed)
-
-  pub counts-antitone : {f : List ℤ} {x : ℕ} {t u : ℤ} → t ≤ℤ u → Counts s W H f x u → Counts s W H f x t
-  counts-antitone {f} {t = t} {u} h c = recounted c (admitted-antitone s f t u (c .path) h (c .admitted))
 
   pub counts-monotone :
       (f g : List ℤ) → ((p : ℕ) → p < W * H → levelAt f p ≤ℤ levelAt g p) → {x : ℕ} {t : ℤ} → Counts s W H f x t → Counts s W H g x t

@@ -5,9 +5,9 @@ use mathlib.Core.Path.{_≡_}
 use mathlib.Core.Bool.{Bool, true, false}
 use mathlib.Core.List.{List, [], _∷_, List·Memᴰ}
 use native.Mathlib.Omega.{arith}
-use Rattle.plate.specs.Paths.{next, span}
-use Rattle.theory.specs.Walks.{Walk, Walk.stop, WalkFrom, back, around}
-use Rattle.theory.specs.Ranks.{rank, stepsLeft, stepsBehind}
+use Rattle.plate.specs.Paths.{span}
+use Rattle.theory.specs.Walks.{Walk, Walk.stop, WalkFrom, around}
+use Rattle.theory.specs.Ranks.{stepsLeft, stepsBehind}
 use Rattle.theory.proofs.Walks.{step-first}
 use Rattle.theory.proofs.Steps.{next-on}
 use Rattle.theory.proofs.Reversal.{turn-back}
@@ -56,11 +56,6 @@ module _ (W H bit : ℕ) (R : Ranked W H bit) where
 pub side : (W H bit : ℕ) → List·Memᴰ bit bits → (b : Bool) → Side W H bit b
 side W H bit i true = backwards W H bit (ranked W H bit i)
 side W H bit i false = forwards W H bit (ranked W H bit i)
-
--- every step takes room away
-pub room-falls : {W H bit : ℕ} {b : Bool} → Side W H bit b → (p q : ℕ) → List·Memᴰ q (around b W H bit p) → stepsLeft W H bit b q < stepsLeft W H bit b p
-room-falls {W} {H} {bit} {b} S p q i =
-    let on = S .stays p q i in omega (arith, S .rises p q i, S .total p (on .0), S .total q (on .1))
 
 -- a walk of m steps starts at p exactly when p has room for it: here that it then does
 pub side-walk : {W H bit : ℕ} {b : Bool} → Side W H bit b → (m p : ℕ) → p < W * H → m ≤ stepsLeft W H bit b p → WalkFrom (around b W H bit) m p

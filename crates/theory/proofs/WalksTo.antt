@@ -11,7 +11,7 @@ use Rattle.theory.specs.Walks.{Walk, Walk.stop, Walk.go, lastOf}
 use Rattle.theory.specs.BestWalks.{best, under, lowPixels, ended, alone, fewer, bestWalk, bestWalkTo}
 use Rattle.basics.proofs.Numbers.{le-or-lt}
 use Rattle.theory.proofs.Maxima.{best-find, best-keep, best-least, best-mono, best-same}
-use Rattle.theory.proofs.LevelSets.{under-low, under-high, reach-bound}
+use Rattle.theory.proofs.LevelSets.{under-low, under-high}
 use Rattle.theory.proofs.Walks.{last-on}
 use Rattle.plate.specs.Paths.{lastAfter}
 
@@ -101,9 +101,6 @@ module _ (slack : ℕ) (next : ℕ → List ℕ) (g : ℕ → ℕ) (passes : ℕ
         best-least (bestWalkTo slack next g passes m (suc j)) 0 (next p)
             (λ q i. omega (arith, from-nowhere Out closed barred m (suc j) q (closed p q out i))),
       )
-
-  pub from-bound : ((p : ℕ) → g p ≤ 65535) → slack ≤ 65535 → (m j p : ℕ) → bestWalkTo slack next g passes m j p ≤ 65535
-  from-bound bounded small m j p = omega (arith, from-below m j p, reach-bound slack next g bounded small m j p)
 
   -- one more gap never lowers it, nor do several
   pub from-more-gaps : (m j p : ℕ) → bestWalkTo slack next g passes m j p ≤ bestWalkTo slack next g passes m (suc j) p

@@ -1,6 +1,6 @@
 -- `enter_trace` meets its contract: all checks have decided before the first store, so a refusal leaves both lent buffers and the book as they were; and
 -- once they have passed the trace is accepted, by its own contract, and the book takes what it has found.
-use mathlib.Core.Path.{_≡_, refl, sym, ap, _∙_}
+use mathlib.Core.Path.{refl, sym, ap, _∙_}
 use borrow.Author.Needs.{needs}
 use lib.ListN.{length}
 use Rattle.plate.specs.Refusals.{Clear}

@@ -4,7 +4,7 @@ use borrow.Author.Needs.{needs}
 use mir.Syntax.{w16}
 use mir.Facts.{toZ-ofZ}
 use Rattle.basics.proofs.Integers.{read-back}
-use Rattle.plate.specs.Levels.{level, mirror}
+use Rattle.plate.specs.Levels.{mirror}
 use Rattle.frames.proofs.KeyLaws.{level-plain, level-mirrored}
 use Rattle.frames.proofs.keys.level_by.Statement.{statement}
 use Rattle.frames.proofs.keys.level_by.Tie as tie

@@ -2,7 +2,7 @@
 use borrow.Author.Needs.{needs}
 use mathlib.Core.Logic.{inl, inr}
 use native.Mathlib.Omega.{arith}
-use Prim.Native.Nat.{ℕ, _+_, _≤_}
+use Prim.Native.Nat.{ℕ, _+_}
 use Rattle.plans.specs.Plans.{blockOf}
 use Rattle.states.specs.Runs.{Between, numbers}
 use Rattle.states.proofs.TurnedLaws.{turned-high, numbers-filled}

@@ -1,5 +1,4 @@
 -- `open` judges the length of the text.
-use borrow.Author.Needs.{needs}
 use borrow.Author.Tests.{lt-ltb, le-ltb}
 use native.Mathlib.Omega.{arith}
 use Rattle.plate.specs.Refusals.{judged}
