@@ -225,6 +225,7 @@ pub replicate-default : {A : Type 0} (n k : ℕ) (d : A) → getD (replicate n d
 replicate-default zero k d = refl
 replicate-default (suc n) zero d = refl
 replicate-default (suc n) (suc k) d = replicate-default n k d
+
 -- ---- the rest of a front part is a front part of the rest
 
 pub drop-take : {A : Type 0} (k n : ℕ) (l : List A) → drop k (take n l) ≡ take (n - k) (drop k l)

@@ -10,7 +10,7 @@ use native.Mathlib.Omega.{arith}
 use lib.Dec.{T, leb, eqb, leb→le, le→leb}
 use borrow.Author.Tests.{eqb-true, eq-eqb}
 use lib.IntN.{ℤ}
-use lib.Signed.{mag, ltZ, _≤ℤ_, _<ℤ_, ltZ-yes, <ℤ-≤ℤ-trans, clashℤ}
+use lib.Signed.{mag, ltZ, _≤ℤ_, _<ℤ_, ltZ-yes, clashℤ}
 use Rattle.basics.proofs.Order.{≤ℤ-<ℤ-trans}
 use Rattle.basics.proofs.Tests.{true-or-false, T-true, true-T, and-both, both-and, or-right, count-le, same-test}
 use Rattle.plate.specs.Levels.{lowest}

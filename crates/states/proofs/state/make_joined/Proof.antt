@@ -48,6 +48,11 @@ one-back : (t : tie.Then1 Inv-loop μ-loop) → let a = start t .args in let m =
     (a .plan .rows - m) * rowSize (a .plan) ≡ (a .plan .rows - (m + 1)) * rowSize (a .plan) + rowSize (a .plan)
 one-back t = row-back _ _ _ (t .if1 .taken)
 
+-- where the other state's row begins
+placed : (t : tie.Then1 Inv-loop μ-loop) → let a = start t .args in let l = head t .loop in
+    l .at - rowSize (a .plan) ≡ a .ends + (a .plan .rows - (l .m + 1)) * rowSize (a .plan)
+placed t = omega (arith, head t .loop .inv .1, one-back t)
+
 -- the rows of all states, or the one of a state by itself, beside that of the state before
 rows : (j : tie.Joined2 Inv-loop μ-loop) → let t = j .before .before .before .before .before .before in let a = start t .args in let l = head t .loop in
     NextRows (a .plan) (a .states .first) (a .states .past) (l .m) (a .work .now) (l .slots) (numbers (j .before .before .before .hold-last .last .0)) (numbers (j .if2 .held))
@@ -221,15 +226,14 @@ loop-again c =
     let len = same-many _ _ (turned j .len) in
     let r = c .before .before .before .before .before .before .row-in .ensures in
     let b = c .before .before .before .join-row in
-    let w = c .swapped .ensures in
-    let back = one-back t in (
+    let w = c .swapped .ensures in (
       omega (arith, t .if1 .taken),
-      omega (arith, i .1, back),
+      placed t,
       halves-swapped _ _ _ _ _ _ (i .2) (w .0) (w .1) len,
       len ∙ i .3,
       rows j .1 ∙ i .4,
       making-swapped _ _ _ _ _ _ _ _ _ _ (made j) refl (w .0),
-      joining-more _ _ _ _ _ _ _ _ _ _ _ _ _ _ _ _ _ (s .pre .0 .1) (t .if1 .taken) refl (omega (arith, i .1, back)) (r .2) (r .0) (r .1) (i .6) (made j)
+      joining-more _ _ _ _ _ _ _ _ _ _ _ _ _ _ _ _ _ (s .pre .0 .1) (t .if1 .taken) refl (placed t) (r .2) (r .0) (r .1) (i .6) (made j)
           (b .ensures) (b .kept .0),
     )
 
