@@ -14,7 +14,7 @@ use Rattle.directions.specs.Gathering.{Raised, bestOf}
 use Rattle.frames.specs.declared.frame.Frame.{Frame}
 use Rattle.states.specs.Runs.{Between}
 use Rattle.plans.specs.Plans.{keysSize}
-use Rattle.sweeps.specs.Stacks.{KeysAre, Sequence}
+use Rattle.stacks.specs.Stacks.{KeysAre, Sequence}
 use Rattle.sweeps.specs.Sweeps.{AllJoined, Swept}
 use Rattle.sweeps.specs.Doors.{statesOf, otherEnd, sweepable}
 use Rattle.sweeps.proofs.DoorTests.{sweeps-if}

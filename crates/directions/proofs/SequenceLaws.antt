@@ -12,7 +12,7 @@ use Rattle.theory.proofs.WalksTo.{anywhere, from-below}
 use Rattle.frames.specs.Frames.{Framed, placeIn}
 use Rattle.frames.specs.declared.frame.Frame.{Frame}
 use Rattle.plans.specs.Plans.{startsAt}
-use Rattle.sweeps.specs.Stacks.{Sequence}
+use Rattle.stacks.specs.Stacks.{Sequence}
 use Rattle.plans.specs.declared.plan.Plan.{Plan}
 use Rattle.directions.specs.Plans.{straightPlan, stillPlan, rankedPlan, wholeArea, AreaOf, spareOf, byRanks, filterPlan, filterStates}
 use Rattle.directions.specs.Numbers.{numberAt}

@@ -11,7 +11,7 @@ use Rattle.frames.specs.Frames.{placeIn, Bounded, Framed}
 use Rattle.frames.specs.declared.frame.Frame.{Frame}
 use Rattle.plans.specs.Plans.{lineAt, rowLo, rowHi, rowAt, rowsIn, stepsAt}
 use Rattle.plans.specs.Forms.{wellFormed}
-use Rattle.sweeps.specs.Stacks.{Sequence}
+use Rattle.stacks.specs.Stacks.{Sequence}
 use Rattle.plans.specs.declared.plan.Plan.{Plan}
 use Rattle.directions.specs.Numbers.{pixelIn, numberAt, placeKept}
 use Rattle.directions.specs.Plans.{straightPlan, rankedPlan, AreaOf, FrameOf}

@@ -1,4 +1,3 @@
-pub mod StackLaws
 pub mod SweepLaws
 pub mod DoorTests
 pub mod OppositeLaws

@@ -6,19 +6,25 @@ use mathlib.Core.Path.{_≡_, refl, sym, ap, _∙_, subst}
 use mathlib.Core.Bool.{false}
 use mathlib.Core.Logic.{inl, inr}
 use mathlib.Core.List.{List}
+use native.Mathlib.Nat.{mul-le-mul}
 use native.Mathlib.Omega.{arith}
 use lib.ListN.{getD}
 use Rattle.basics.proofs.Numbers.{le-or-lt, rows-fit}
 use Rattle.states.specs.Runs.{Apart}
 use Rattle.plans.specs.Plans.{Sound, rowsIn, rowLo, rowHi, rowAt, rowSize, stateSize, keysSize, halfOf}
 use Rattle.states.specs.States.{Holds, LastHolds, OtherHolds, Advanced, Joined, StateJoined}
-use Rattle.sweeps.specs.Stacks.{KeysAre, Sequence, Stacked, StackFits, Fetched, lastMark}
+use Rattle.stacks.specs.Stacks.{KeysAre, Sequence, Stacked, StackFits, Fetched, lastMark}
 use Rattle.sweeps.specs.Sweeps.{Opposite, AllJoined, Swept, met}
 use Rattle.plans.specs.declared.plan.Plan.{Plan}
-use Rattle.sweeps.specs.declared.stack.Stack.{Stack}
-use Rattle.sweeps.proofs.StackLaws.{holds-apart, last-made, chain-here, fewer, made, stacked-apart, top-holds}
+use Rattle.stacks.specs.declared.stack.Stack.{Stack}
+use Rattle.stacks.proofs.StackLaws.{holds-apart, last-made, chain-here, fewer, made, stacked-apart, top-holds}
 
--- ---- the sizes of the two plans are the same
+-- ---- sizes: a state has some, and those of the two plans are the same
+
+pub some-size : (p : Plan) → Sound p → 1 ≤ stateSize p
+some-size p s =
+    let row : 1 * 1 ≤ p .planes * p .across = mul-le-mul (s .some-planes) (s .some-across) in
+    let all : 1 * 1 ≤ p .rows * rowSize p = mul-le-mul (s .some-rows) (let e : 1 ≤ rowSize p = omega arith in e) in omega arith
 
 module _ (p o : Plan) (states : ℕ) (opposite : Opposite p o states) where
   pub same-keys : keysSize o ≡ keysSize p

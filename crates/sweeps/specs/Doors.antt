@@ -1,16 +1,13 @@
--- Which calls of this crate are taken: the plans can be followed, and what is lent has room. A call that is not taken changes nothing. These
--- definitions serve contracts inside the engine only: no public contract cites them.
+-- Which sweeps are taken: the plans can be followed, and what is lent has room. A call that is not taken changes nothing. These definitions
+-- serve contracts inside the engine only: no public contract cites them.
 use Prim.Native.Nat.{ℕ, _+_, _-_, _*_}
 use mathlib.Core.Bool.{Bool, cond, not, _&&_}
-use lib.Dec.{leb, ltb}
+use lib.Dec.{leb}
 use Rattle.plans.specs.Plans.{keysSize, stateSize}
-use Rattle.plans.specs.Forms.{among, wellFormed}
+use Rattle.plans.specs.Forms.{wellFormed}
 use Rattle.plans.specs.declared.plan.Plan.{Plan}
 use Rattle.plans.specs.declared.plan.Reach.{Reach}
 use Rattle.states.specs.Doors.{canHold}
-use Rattle.sweeps.specs.declared.stack.Stack.{Stack}
-
--- ---- both sides of a direction
 
 -- how many states there are with all their rows
 unfoldable pub statesOf : Plan → ℕ
@@ -53,25 +50,3 @@ roomFor p = keysSize p + cond (p .linked) 2 1 * stateSize p
 unfoldable pub sweepable : Plan → Reach → (work best : ℕ) → Bool
 sweepable p reach work best =
     canHold p 24480 1032 && wellFormed (otherEnd p reach) && leb (statesOf p) 1024 && leb (roomFor p) work && leb (keysSize p) best
-
--- ---- the stack
-
--- the stack stands behind the keys, and its places find room in work and in marks
-unfoldable pub stackFits : Plan → Stack → (work marks : ℕ) → Bool
-stackFits p s work marks =
-    leb (keysSize p) (s .base)
-    && ltb (s .base) 16777216
-    && among 1 64 (s .places)
-    && leb (s .depth) (s .places)
-    && leb (s .base + s .places * stateSize p) work
-    && leb (s .places) marks
-
-unfoldable pub fetches : Plan → Stack → (want spare work marks held below : ℕ) → Bool
-fetches p s want spare work marks held below = canHold p held below && stackFits p s work marks && leb want 1024 && leb spare 1024
-
--- where the last state of a stack begins, where the stack does if it is empty; 0 where it is none
-unfoldable pub hasTop : Plan → Stack → Bool
-hasTop p s = wellFormed p && leb (s .depth) 64 && ltb (s .base) 16777216
-
-unfoldable pub topOf : Plan → Stack → ℕ
-topOf p s = cond (hasTop p s) (s .base + (s .depth - 1) * stateSize p) 0

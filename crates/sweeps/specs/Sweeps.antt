@@ -4,7 +4,7 @@ use mathlib.Core.Path.{_≡_}
 use mathlib.Core.List.{List}
 use lib.ListN.{length, getD}
 use Rattle.plans.specs.Plans.{rowsIn, rowLo, rowHi, rowAt}
-use Rattle.sweeps.specs.Stacks.{KeysAre, Sequence}
+use Rattle.stacks.specs.Stacks.{KeysAre, Sequence}
 use Rattle.plans.specs.declared.plan.Plan.{Plan}
 
 -- two plans with as many states, each the other's in the opposite order, and so are the rows of a state

@@ -3,19 +3,15 @@
 // side; of this side each is made when it is wanted, and joined without being kept.
 ghost use mathlib.Core.Path.{_≡_};
 ghost use mathlib.Core.Bool.{true, false};
-ghost use Prim.Native.Nat.{_+_, _-_, _*_, _≤_, _<_};
+ghost use Prim.Native.Nat.{_+_, _*_, _≤_};
 ghost use lib.ListN.{length};
 ghost use Rattle.plans.specs.Plans.{stateSize, keysSize, halfOf};
 ghost use Rattle.plans.specs.Forms.{wellFormed};
 ghost use Rattle.sweeps.specs.Sweeps.{Opposite, Swept};
-use crate::stack::Stack;
-use crate::stack::at_once;
-use crate::stack::fetch;
-use crate::stack::last_mark;
-use crate::stack::top_of;
 use crate::taken::advance;
 use crate::taken::advance_joined;
 use plans::Plan;
+use stacks::Stack;
 use states::Stretch;
 
 // So many numbers lie before the held rows, and one more before what is kept of a plane. Any number up to 7 is
@@ -89,7 +85,7 @@ fn sweep_linked(
     let size = plan.rows * (plan.planes * plan.across);
     let places = states_fitting(work.len() - base, size);
     let ends = base + places * size;
-    let spare = at_once(plan, held.len()) - 1;
+    let spare = stacks::at_once(plan, held.len(), below.len()) - 1;
     let mut marks = [0usize; 64];
     let mut stack = Stack {
         base: base,
@@ -104,10 +100,10 @@ fn sweep_linked(
         };
         advance(work, held, below, other, theirs, ends, ends);
         let d = states - 1 - e;
-        stack = fetch(work, &mut marks, held, below, plan, stack, d, spare);
-        let from = top_of(plan, stack);
+        stack = stacks::fetch(work, &mut marks, held, below, plan, stack, d, spare);
+        let from = stacks::top_of(plan, stack);
         let ours = Stretch {
-            first: last_mark(&marks, stack.depth),
+            first: stacks::last_mark(&marks, stack.depth),
             past: d + 1,
         };
         advance_joined(best, work, held, below, plan, ours, from, ends);
@@ -115,31 +111,8 @@ fn sweep_linked(
     }
 }
 
-// All states of both sides, joined.
-fn sweep(
-    best: &mut [u16],
-    work: &mut [u16],
-    held: &mut [u16],
-    below: &mut [u16],
-    plan: Plan,
-    other: Plan,
-    states: usize,
-)
-    requires { ⌜ (wellFormed plan ≡ true) × (wellFormed other ≡ true) ⌝ }
-    requires { ⌜ Opposite plan other states ⌝ }
-    requires { ⌜ (keysSize plan + stateSize plan ≤ length (now work)) × (plan .linked ≡ true → keysSize plan + 2 * stateSize plan ≤ length (now work)) × (keysSize plan ≤ length (now best)) ⌝ }
-    requires { ⌜ (halfOf plan + halfOf plan ≤ length (now held)) × (length (now held) ≤ 40000) × (plan .across + 7 ≤ length (now below)) ⌝ }
-    ensures { λ _. ⌜ Swept plan other states (now (work .entry)) (now (best .entry)) (now (best .exit)) ⌝ }
-{
-    if plan.linked {
-        sweep_linked(best, work, held, below, plan, other, states);
-    } else {
-        sweep_apart(best, work, held, below, plan, other, states);
-    }
-}
-
-// The same with rows that are held on the stack of the call: 50 KB, so that four states are made at once
-// where a row has 256 pixels and nine planes.
+// All states of both sides, joined. The rows that are held lie on the stack of the call: 50 KB, so that four
+// states are made at once where a row has 256 pixels and nine planes.
 pub(crate) fn sweep_held(best: &mut [u16], work: &mut [u16], plan: Plan, other: Plan, states: usize)
     requires { ⌜ (wellFormed plan ≡ true) × (wellFormed other ≡ true) ⌝ }
     requires { ⌜ Opposite plan other states ⌝ }
@@ -149,13 +122,11 @@ pub(crate) fn sweep_held(best: &mut [u16], work: &mut [u16], plan: Plan, other: 
 {
     let mut held = [0u16; 24496];
     let mut below = [0u16; 1040];
-    sweep(
-        best,
-        work,
-        &mut held[LEAD..],
-        &mut below[LEAD + 1..],
-        plan,
-        other,
-        states,
-    );
+    let rows = &mut held[LEAD..];
+    let plane = &mut below[LEAD + 1..];
+    if plan.linked {
+        sweep_linked(best, work, rows, plane, plan, other, states);
+    } else {
+        sweep_apart(best, work, rows, plane, plan, other, states);
+    }
 }

@@ -9,7 +9,7 @@ use lib.IntN.{ℤ}
 use Rattle.theory.proofs.Towards.{towards-find}
 use Rattle.plans.specs.Plans.{lineAt, rowsIn, stepsAt}
 use Rattle.states.specs.States.{Holds}
-use Rattle.sweeps.specs.Stacks.{KeysAre}
+use Rattle.stacks.specs.Stacks.{KeysAre}
 use Rattle.directions.specs.Numbers.{pixelIn}
 use Rattle.directions.proofs.TraceRows.{HasRow}
 use Rattle.frames.specs.Frames.{placeIn}

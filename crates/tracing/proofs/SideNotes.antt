@@ -14,7 +14,7 @@ use Rattle.theory.proofs.Towards.{towards-best}
 use Rattle.frames.specs.Frames.{placeIn}
 use Rattle.states.specs.Runs.{Between, Apart}
 use Rattle.plans.specs.Plans.{lineAt, stepsAt, keysSize}
-use Rattle.sweeps.proofs.StackLaws.{keys-apart}
+use Rattle.stacks.proofs.StackLaws.{keys-apart}
 use Rattle.directions.specs.Numbers.{pixelIn}
 use Rattle.directions.proofs.TraceRows.{HasRow}
 use Rattle.tracing.specs.Scans.{Sound, bitOf, keyOf, KeysLaid}

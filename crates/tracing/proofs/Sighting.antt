@@ -17,7 +17,7 @@ use Rattle.plans.specs.Forms.{wellFormed}
 use Rattle.plans.proofs.FormLaws.{well-formed-sound}
 use Rattle.plans.specs.Plans.{rowsIn, keysOf, keysSize, stepsAt}
 use Rattle.plans.specs.Plans.{Sound as SoundPlan}
-use Rattle.sweeps.specs.Stacks.{KeysAre, Sequence}
+use Rattle.stacks.specs.Stacks.{KeysAre, Sequence}
 use Rattle.plans.specs.declared.plan.Plan.{Plan}
 use Rattle.directions.specs.Plans.{byRows}
 use Rattle.directions.specs.Numbers.{KeptOn, placeKept, keysBy}

@@ -10,9 +10,9 @@ use lib.IntN.{ℤ}
 use Rattle.basics.proofs.Numbers.{rows-fit}
 use Rattle.plans.specs.Plans.{stateSize, keysSize}
 use Rattle.states.specs.States.{Holds}
-use Rattle.sweeps.specs.Stacks.{Sequence, Stacked, StackFits, Fetched, lastMark}
+use Rattle.stacks.specs.Stacks.{Sequence, Stacked, StackFits, Fetched, lastMark}
 use Rattle.plans.specs.declared.plan.Plan.{Plan}
-use Rattle.sweeps.specs.declared.stack.Stack.{Stack}
+use Rattle.stacks.specs.declared.stack.Stack.{Stack}
 use Rattle.directions.specs.Numbers.{placeKept}
 use Rattle.directions.proofs.RoomLaws.{Roomy}
 use Rattle.tracing.specs.Scans.{Sound, bitOf, keyOf, KeysLaid}

@@ -7,9 +7,9 @@ use mathlib.Core.List.{List}
 use lib.ListN.{length}
 use lib.IntN.{ℤ}
 use Rattle.plans.specs.Plans.{stepsAt, halfOf}
-use Rattle.sweeps.specs.Stacks.{KeysAre, Stacked, StackFits}
+use Rattle.stacks.specs.Stacks.{KeysAre, Stacked, StackFits}
 use Rattle.plans.specs.declared.plan.Plan.{Plan}
-use Rattle.sweeps.specs.declared.stack.Stack.{Stack}
+use Rattle.stacks.specs.declared.stack.Stack.{Stack}
 use Rattle.directions.specs.Numbers.{placeKept}
 use Rattle.walks.specs.Picking.{Tells}
 use Rattle.walks.specs.declared.stand.Stand.{Stand}

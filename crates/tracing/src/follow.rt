@@ -24,7 +24,7 @@ use directions::Sight;
 use headings::follow_any;
 use headings::index_after;
 use plans::Plan;
-use sweeps::Stack;
+use stacks::Stack;
 use walks::Stand;
 use walks::gaps_after;
 

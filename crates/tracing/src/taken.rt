@@ -1,4 +1,4 @@
-// The doors of states, sweeps and walks, called where it is known that they are taken.
+// The doors of states, stacks and walks, called where it is known that they are taken.
 ghost use mathlib.Core.Path.{_≡_};
 ghost use mathlib.Core.Bool.{true, false};
 ghost use Prim.Native.Nat.{ℕ, _+_, _-_, _*_, _≤_, _<_};
@@ -7,14 +7,14 @@ ghost use Rattle.plans.specs.Plans.{rowsIn, stateSize, keysSize, halfOf};
 ghost use Rattle.plans.specs.Forms.{wellFormed};
 ghost use Rattle.states.specs.Runs.{Between};
 ghost use Rattle.states.specs.States.{Advanced};
-ghost use Rattle.sweeps.specs.Stacks.{StackFits, Fetched};
+ghost use Rattle.stacks.specs.Stacks.{StackFits, Fetched};
 ghost use Rattle.walks.specs.Endings.{endedIn};
 ghost use Rattle.walks.specs.Noting.{Lifted, FromState, stepsPast};
 ghost use Rattle.walks.specs.Picking.{storedAt, Picked, OfSteps, StepTo, OnRow};
 ghost use Rattle.walks.specs.Searching.{termAt, Searched};
 use plans::Plan;
+use stacks::Stack;
 use states::Stretch;
-use sweeps::Stack;
 use walks::Found;
 use walks::Notes;
 use walks::Stand;
@@ -66,7 +66,7 @@ pub(crate) fn fetch(
     ensures { λ r. ⌜ Fetched plan stack (r .depth) want 0 (now (work .entry)) (now (marks .entry)) (now (work .exit)) (now (marks .exit)) ⌝ }
     ensures { λ _. ⌜ (length (now (held .exit)) ≡ length (now (held .entry))) × (length (now (below .exit)) ≡ length (now (below .entry))) ⌝ }
 {
-    sweeps::fetch(work, marks, held, below, plan, stack, want, 0)
+    stacks::fetch(work, marks, held, below, plan, stack, want, 0)
 }
 
 // Where its last state begins.
@@ -74,7 +74,7 @@ pub(crate) fn top_of(plan: Plan, stack: Stack) -> usize
     requires { ⌜ (wellFormed plan ≡ true) × (stack .depth ≤ 64) × (stack .base < 16777216) ⌝ }
     ensures { λ r. ⌜ r ≡ stack .base + (stack .depth - 1) * stateSize plan ⌝ }
 {
-    sweeps::top_of(plan, stack)
+    stacks::top_of(plan, stack)
 }
 
 // The notes rise to all rows of state e, which stands at `base`.

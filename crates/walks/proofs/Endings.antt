@@ -7,7 +7,7 @@ use native.Mathlib.Omega.{arith}
 use Rattle.plans.specs.Plans.{Sound, rowsIn, rowLo, rowHi, rowAt}
 use Rattle.plans.specs.declared.plan.Plan.{Plan}
 use Rattle.states.specs.States.{Holds}
-use Rattle.sweeps.specs.Stacks.{KeysAre}
+use Rattle.stacks.specs.Stacks.{KeysAre}
 use Rattle.theory.specs.BestWalks.{ended}
 use Rattle.walks.specs.Endings.{endedIn}
 

@@ -9,8 +9,9 @@ use Rattle.plans.specs.Plans.{Sound, rowsIn, rowLo, rowHi, stateSize, keysSize}
 use Rattle.plans.specs.declared.plan.Plan.{Plan}
 use Rattle.states.specs.Runs.{Apart}
 use Rattle.states.specs.States.{LastHolds, Advanced}
-use Rattle.sweeps.specs.Stacks.{KeysAre, Sequence}
-use Rattle.sweeps.proofs.StackLaws.{apart-none, apart-then, keys-apart, made, last-made}
+use Rattle.stacks.specs.Stacks.{KeysAre, Sequence}
+use Rattle.states.proofs.PlaneLaws.{apart-none, apart-then}
+use Rattle.stacks.proofs.StackLaws.{keys-apart, made, last-made}
 use Rattle.walks.specs.Noting.{Lifted, FromState}
 use Rattle.walks.specs.Endings.{endedIn}
 use Rattle.walks.proofs.Endings.{endedBy, ended-held}

@@ -1,6 +1,6 @@
 -- `states_fitting` meets its contract: the quotient says how many states find room, and one of them is not of the stack.
 use native.Mathlib.Omega.{arith}
-use Rattle.sweeps.proofs.StackLaws.{two-places, places-fit}
+use Rattle.stacks.proofs.StackLaws.{two-places, places-fit}
 use borrow.Author.Needs.{needs}
 use Rattle.sweeps.proofs.sweeping.states_fitting.Statement.{statement}
 use Rattle.sweeps.proofs.sweeping.states_fitting.Tie as tie

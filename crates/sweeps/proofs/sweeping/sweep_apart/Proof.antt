@@ -6,7 +6,8 @@ use native.Mathlib.Omega.{arith}
 use lib.ListN.{length}
 use Rattle.plans.specs.Plans.{stateSize, keysSize}
 use Rattle.plans.proofs.FormLaws.{well-formed-sound}
-use Rattle.sweeps.proofs.StackLaws.{apart-none, half-one}
+use Rattle.states.proofs.PlaneLaws.{apart-none}
+use Rattle.stacks.proofs.StackLaws.{half-one}
 use Rattle.sweeps.proofs.SweepLaws.{SweptTo, same-keys, same-size, same-half, full-last, swept-none, swept-more, swept-all, unlinked}
 use Rattle.sweeps.proofs.sweeping.sweep_apart.Statement.{statement}
 use Rattle.sweeps.proofs.sweeping.sweep_apart.Tie as tie

@@ -1,11 +1,11 @@
--- `sweep_held` meets its contract: the rows that it holds have room.
+-- `sweep_held` meets its contract by its two cases, states that are linked and states that are not: the rows that it holds have room.
 use native.Mathlib.Omega.{arith}
 use borrow.Author.Needs.{needs}
 use Rattle.sweeps.proofs.sweeping.sweep_held.Statement.{statement}
 use Rattle.sweeps.proofs.sweeping.sweep_held.Tie as tie
 
-sub-sweep : tie.Need-sub-sweep
-sub-sweep c = search needs
+sub-rows : tie.Need-sub-rows
+sub-rows c = search needs
 
 part-held-start : tie.Need-part-held-start
 part-held-start c = search needs
@@ -19,8 +19,8 @@ add-below c = search needs
 mul-below : tie.Need-mul-below
 mul-below c = search needs
 
-sub-sweep-2 : tie.Need-sub-sweep-2
-sub-sweep-2 c = search needs
+sub-plane : tie.Need-sub-plane
+sub-plane c = search needs
 
 part-below-start : tie.Need-part-below-start
 part-below-start c = search needs
@@ -28,33 +28,53 @@ part-below-start c = search needs
 part-below-end : tie.Need-part-below-end
 part-below-end c = search needs
 
-sweep-requires : tie.Need-sweep-requires
-sweep-requires c κs =
-    let s = c .before .before .before .before .before .before in
-    let r = s .pre .1 .1 in (s .pre .0, (s .pre .1 .0, (r .0, (omega (arith, r .1 .0), omega arith, omega (arith, r .1 .1)))))
+sweep-linked-requires : tie.Need-sweep-linked-requires
+sweep-linked-requires c κs =
+    let s = c .before .before .before .before .before .before .before in
+    let r = s .pre .1 .1 in
+    (s .pre .0, (s .pre .1 .0, ((r .0 .1 (c .before .before .if1 .taken), r .0 .2), (omega (arith, r .1 .0), omega arith, omega (arith, r .1 .1)))))
+
+sweep-apart-requires : tie.Need-sweep-apart-requires
+sweep-apart-requires c κs =
+    let s = c .before .before .before .before .before .before .before in
+    let r = s .pre .1 .1 in
+    (s .pre .0, ((s .pre .1 .0, c .before .before .if1 .left), ((r .0 .0, r .0 .2), (omega (arith, r .1 .0), omega arith, omega (arith, r .1 .1)))))
 
 same-length : tie.Need-same-length
-same-length c = search needs
+same-length c = c .before .before .before .before .before .before .sweep-linked .kept .0
 
 same-length-2 : tie.Need-same-length-2
-same-length-2 c = search needs
+same-length-2 c = c .before .before .before .before .before .before .sweep-linked .kept .1 .0
 
 returns : tie.Need-returns
-returns c = search needs
+returns c = c .before .before .before .before .before .before .sweep-linked .ensures
+
+same-length-3 : tie.Need-same-length-3
+same-length-3 c = c .before .before .before .before .before .before .sweep-apart .kept .0
+
+same-length-4 : tie.Need-same-length-4
+same-length-4 c = c .before .before .before .before .before .before .sweep-apart .kept .1 .0
+
+returns-2 : tie.Need-returns-2
+returns-2 c = c .before .before .before .before .before .before .sweep-apart .ensures
 
 pub sweep-held-spec : {M : Type 1} → statement M
 sweep-held-spec =
     tie.close
     (tie.spec
-    sub-sweep
+    sub-rows
     part-held-start
     part-held-end
     add-below
     mul-below
-    sub-sweep-2
+    sub-plane
     part-below-start
     part-below-end
-    sweep-requires
+    sweep-linked-requires
+    sweep-apart-requires
     same-length
     same-length-2
-    returns)
+    returns
+    same-length-3
+    same-length-4
+    returns-2)

@@ -4,12 +4,17 @@ use Prim.Native.Nat.{ℕ, _+_, _-_, _*_, _≤_}
 use mathlib.Core.Path.{_≡_, refl, sym, _∙_, subst}
 use mathlib.Core.Logic.{inl}
 use native.Mathlib.Omega.{arith}
+use borrow.Author.Needs.{needs}
 use lib.ListN.{length}
-use Rattle.plans.specs.Plans.{stateSize, keysSize}
-use Rattle.sweeps.specs.Stacks.{StackFits}
+use Rattle.basics.specs.Cases.{either}
+use Rattle.plans.specs.Plans.{stateSize, keysSize, halfWith}
+use Rattle.stacks.specs.Stacks.{StackFits}
+use Rattle.stacks.specs.Doors.{fetches}
 use Rattle.plans.proofs.FormLaws.{well-formed-sound}
-use Rattle.sweeps.proofs.StackLaws.{row-below, state-below, states-below, some-size, half-one, half-fewer}
-use Rattle.sweeps.proofs.SweepLaws.{SweptTo, StackKept, StackAt, same-keys, same-size, same-half, full-last, swept-none, swept-all, stack-none, stack-fits, top-fits, linked-turn}
+use Rattle.states.proofs.DoorTests.{hold-if}
+use Rattle.stacks.proofs.DoorTests.{fetches-if, top-4}
+use Rattle.stacks.proofs.StackLaws.{row-below, state-below, states-below, half-one, half-fewer}
+use Rattle.sweeps.proofs.SweepLaws.{some-size, SweptTo, StackKept, StackAt, same-keys, same-size, same-half, full-last, swept-none, swept-all, stack-none, stack-fits, top-fits, linked-turn}
 use Rattle.sweeps.proofs.sweeping.sweep_linked.Statement.{statement}
 use Rattle.sweeps.proofs.sweeping.sweep_linked.Tie as tie
 
@@ -53,10 +58,18 @@ add-ends : tie.Need-add-ends Inv-loop μ-loop
 add-ends c = omega (arith, all-below c, well-formed-sound _ (c .before .before .before .before .before .before .before .before .pre .0 .0) .few-pixels)
 
 at-once-requires : tie.Need-at-once-requires Inv-loop μ-loop
-at-once-requires c κs = let s = c .before .before .before .before .before .before .before .before in (s .pre .0 .0, s .pre .1 .1 .1 .0)
+at-once-requires c κs = search needs
+
+-- so many states as are made at once find room among the held rows
+held-once : (o : tie.After-at-once Inv-loop μ-loop) → let a = o .before .before .before .before .before .before .before .before .before .args in
+    halfWith (a .plan) (o .at-once .result - 1) + halfWith (a .plan) (o .at-once .result - 1) ≤ length (a .held .now)
+held-once o =
+    let s = o .before .before .before .before .before .before .before .before .before in
+    let h = s .pre .1 .1 .1 in
+    rw (hold-if (s .args .plan) (length (s .args .held .now)) (length (s .args .below .now)) (s .pre .0 .0) (h .0) (h .1) (h .2)) at (o .at-once .ensures .1)
 
 sub-spare : tie.Need-sub-spare Inv-loop μ-loop
-sub-spare c = omega (arith, c .at-once .ensures .0)
+sub-spare c = omega (arith, c .at-once .ensures .0 .0)
 
 loop-holds : tie.Need-loop-holds Inv-loop μ-loop
 loop-holds c =
@@ -113,60 +126,63 @@ slice-aggregate-fetch : tie.Need-slice-aggregate-fetch Inv-loop μ-loop
 slice-aggregate-fetch c = sym (c .before .before .before .before .before .before .before .before .before .before .before .before .before .loop .inv .4)
 
 fetch-requires : tie.Need-fetch-requires Inv-loop μ-loop
-fetch-requires c κs =
-    let s = c .before .before .before .before .before .before .before .before .before .before .before .before .before .before .before .before .before .before .before .before .before .before .before .before .before in
+fetch-requires c κs = search needs
+
+-- the call is taken, whatever is promised of it
+fetched : (f : tie.After-fetch Inv-loop μ-loop) (spare : ℕ) (P Q : Type 0) →
+    let a = f .before .before .before .before .before .before .before .before .before .before .before .before .before .before .before .before .before .before .before .before .before .before .before .before .before .before .args in
+    let l = f .before .before .before .before .before .before .before .before .before .before .before .before .before .before .before .before .loop in
+    let v = f .before .before .before .before .before .before .before .before .before .before .before .advance .last in
+    either (fetches (a .plan) (l .stack) (a .states - 1 - l .e) spare (length (v .0)) (length (l .marks)) (length (v .1 .0)) (length (v .1 .1 .0))) P Q →
+    spare ≤ 1024 → P
+fetched f spare P Q e few =
+    let s = f .before .before .before .before .before .before .before .before .before .before .before .before .before .before .before .before .before .before .before .before .before .before .before .before .before .before in
     let a = s .args in
-    let l = c .before .before .before .before .before .before .before .before .before .before .before .before .before .before .before .loop in
+    let l = f .before .before .before .before .before .before .before .before .before .before .before .before .before .before .before .before .loop in
     let i = l .inv in
-    let n = c .before .before .before .before .before .before .before .before .before .before .before .before .before .before .before .before .before .states-fitting in
-    let v = c .before .before .before .before .before .before .before .before .before .before .advance in
+    let n = f .before .before .before .before .before .before .before .before .before .before .before .before .before .before .before .before .before .before .states-fitting in
+    let v = f .before .before .before .before .before .before .before .before .before .before .before .advance in
     let fits : keysSize (a .plan) + n .result * stateSize (a .plan) + stateSize (a .plan) ≤ length (v .last .0) =
-    omega (arith, v .ensures .0 .apart .len, i .1, n .ensures .2, s .pre .1 .1 .0 .0) in (
-      s .pre .0 .0,
-      (
-        (
-          subst (λ (m : ℕ). StackFits (a .plan) (l .stack) (length (v .last .0)) m) (sym (i .4))
-              (stack-fits (a .plan) (well-formed-sound _ (s .pre .0 .0)) (n .result) (length (v .last .0)) (l .stack) (n .ensures .0) (n .ensures .1) fits (i .5)),
-          omega (arith, s .pre .1 .0 .few),
-          omega (arith, c .before .before .before .before .before .before .before .before .before .before .before .before .before .before .before .before .at-once .ensures),
-        ),
-        (
-          omega (arith, v .ensures .1 .0, i .2, s .pre .1 .1 .1 .0),
-          omega (arith, v .ensures .1 .0, i .2, s .pre .1 .1 .1 .1),
-          omega (arith, v .ensures .1 .1, i .3, s .pre .1 .1 .1 .2),
-        ),
-      ),
-    )
+    omega (arith, v .ensures .0 .apart .len, i .1, n .ensures .2, s .pre .1 .1 .0 .0) in
+    let taken = fetches-if (a .plan) (l .stack) (a .states - 1 - l .e) spare (length (v .last .0)) (length (l .marks)) (length (v .last .1 .0)) (length (v .last .1 .1 .0)) (s .pre .0 .0)
+    (omega (arith, v .ensures .1 .0, i .2, s .pre .1 .1 .1 .0))
+    (omega (arith, v .ensures .1 .0, i .2, s .pre .1 .1 .1 .1))
+    (omega (arith, v .ensures .1 .1, i .3, s .pre .1 .1 .1 .2))
+    (subst (λ (m : ℕ). StackFits (a .plan) (l .stack) (length (v .last .0)) m) (sym (i .4))
+    (stack-fits (a .plan) (well-formed-sound _ (s .pre .0 .0)) (n .result) (length (v .last .0)) (l .stack) (n .ensures .0) (n .ensures .1) fits (i .5)))
+    (omega (arith, s .pre .1 .0 .few)) few in
+    rw taken at e
 
 top-of-requires : tie.Need-top-of-requires Inv-loop μ-loop
-top-of-requires c κs =
-    let s = c .before .before .before .before .before .before .before .before .before .before .before .before .before .before .before .before .before .before .before .before .before .before .before .before .before .before .before .before .before .before .before .before .before in
-    let i = c .before .before .before .before .before .before .before .before .before .before .before .before .before .before .before .before .before .before .before .before .before .before .before .loop .inv in
-    let n = c .before .before .before .before .before .before .before .before .before .before .before .before .before .before .before .before .before .before .before .before .before .before .before .before .before .states-fitting in
-    let f = c .before .before .before .before .before .before .before .fetch in (
-      s .pre .0 .0,
-      omega (arith, f .ensures .0 .2, i .5 .is-places, n .ensures .1),
-      omega (arith, f .ensures .0 .0, i .5 .is-base, well-formed-sound _ (s .pre .0 .0) .few-pixels),
-    )
+top-of-requires c κs = search needs
 
 -- the stack that came back
 stack-at : (f : tie.After-fetch Inv-loop μ-loop) → let a = f .before .before .before .before .before .before .before .before .before .before .before .before .before .before .before .before .before .before .before .before .before .before .before .before .before .before .args in
     StackAt (a .plan) (f .before .before .before .before .before .before .before .before .before .before .before .before .before .before .before .before .before .before .states-fitting .result) (f .fetch .result)
 stack-at f =
-    let e = f .fetch .ensures .0 in
+    let e = fetched f _ _ _ (f .fetch .ensures .0) (omega (arith, f .before .before .before .before .before .before .before .before .before .before .before .before .before .before .before .before .before .at-once .ensures .0)) .0 in
     let i = f .before .before .before .before .before .before .before .before .before .before .before .before .before .before .before .before .loop .inv .5 in
     record { is-base = e .0 ∙ i .is-base; is-places = e .1 ∙ i .is-places; deep = omega (arith, e .2, i .is-places) }
 
+-- where its last state begins
+top-is : (t : tie.After-top-of Inv-loop μ-loop) → let f = t .before .before .before .before .before .before .before .before .fetch .result in
+    t .top-of .result ≡ f .base + (f .depth - 1) * stateSize (t .before .before .before .before .before .before .before .before .before .before .before .before .before .before .before .before .before .before .before .before .before .before .before .before .before .before .before .before .before .before .before .before .before .before .args .plan)
+top-is t =
+    let s = t .before .before .before .before .before .before .before .before .before .before .before .before .before .before .before .before .before .before .before .before .before .before .before .before .before .before .before .before .before .before .before .before .before .before in
+    let k = stack-at (t .before .before .before .before .before .before .before .before) in
+    t .top-of .ensures
+    ∙ sym
+    (top-4 _ _ (s .pre .0 .0) (omega (arith, k .deep, t .before .before .before .before .before .before .before .before .before .before .before .before .before .before .before .before .before .before .before .before .before .before .before .before .before .before .states-fitting .ensures .1))
+    (omega (arith, k .is-base, well-formed-sound _ (s .pre .0 .0) .few-pixels)))
+
 slice-aggregate-last-mark : tie.Need-slice-aggregate-last-mark Inv-loop μ-loop
-slice-aggregate-last-mark c = sym (c .before .before .before .before .before .before .before .before .before .fetch .ensures .1 .0 .len ∙ c .before .before .before .before .before .before .before .before .before .before .before .before .before .before .before .before .before .before .before .before .before .before .before .before .before .loop .inv .4)
+slice-aggregate-last-mark c = sym (fetched (c .before .before .before .before .before .before .before .before .before) _ _ _ (c .before .before .before .before .before .before .before .before .before .fetch .ensures .0) (omega (arith, c .before .before .before .before .before .before .before .before .before .before .before .before .before .before .before .before .before .before .before .before .before .before .before .before .before .before .at-once .ensures .0)) .1 .len ∙ c .before .before .before .before .before .before .before .before .before .before .before .before .before .before .before .before .before .before .before .before .before .before .before .before .before .loop .inv .4)
 
 last-mark-requires : tie.Need-last-mark-requires Inv-loop μ-loop
-last-mark-requires c κs =
-    let f = c .before .before .before .before .before .before .before .before .before in
-    omega (arith, stack-at f .deep, c .before .before .before .before .before .before .before .before .before .before .before .before .before .before .before .before .before .before .before .before .before .before .before .before .before .before .before .states-fitting .ensures .1, f .fetch .ensures .1 .0 .len, c .before .before .before .before .before .before .before .before .before .before .before .before .before .before .before .before .before .before .before .before .before .before .before .before .before .loop .inv .4)
+last-mark-requires c κs = search needs
 
-add-t41 : tie.Need-add-t41 Inv-loop μ-loop
-add-t41 c = omega (arith, c .before .before .before .before .before .before .before .before .before .before .before .before .before .before .before .before .before .before .before .before .before .before .before .before .before .before .before .before .before .before .before .before .before .before .before .before .pre .1 .0 .few)
+add-t42 : tie.Need-add-t42 Inv-loop μ-loop
+add-t42 c = omega (arith, c .before .before .before .before .before .before .before .before .before .before .before .before .before .before .before .before .before .before .before .before .before .before .before .before .before .before .before .before .before .before .before .before .before .before .before .before .pre .1 .0 .few)
 
 -- ---- the two are joined
 
@@ -180,17 +196,18 @@ advance-joined-requires c κs =
     let n = c .before .before .before .before .before .before .before .before .before .before .before .before .before .before .before .before .before .before .before .before .before .before .before .before .before .before .before .before .before .before .before .before .states-fitting in
     let v = c .before .before .before .before .before .before .before .before .before .before .before .before .before .before .before .before .before .before .before .before .before .before .before .before .before .advance in
     let f = c .before .before .before .before .before .before .before .before .before .before .before .before .before .before .fetch in
-    let t = c .before .before .before .before .before .before .top-of in
+    let g = fetched (c .before .before .before .before .before .before .before .before .before .before .before .before .before .before) _ _ _ (c .before .before .before .before .before .before .before .before .before .before .before .before .before .before .fetch .ensures .0) (omega (arith, c .before .before .before .before .before .before .before .before .before .before .before .before .before .before .before .before .before .before .before .before .before .before .before .before .before .before .before .before .before .before .before .at-once .ensures .0)) in
+    let t = c .before .before .before .before .before .before in
     let m = c .before .before .before .before .last-mark .ensures in
     let taken = c .before .before .before .before .before .before .before .before .before .before .before .before .before .before .before .before .before .before .before .before .before .before .before .before .before .before .before .before .before .loop-test .taken in
     let fits : keysSize (a .plan) + n .result * stateSize (a .plan) + stateSize (a .plan) ≤ length (f .last .0) =
-    omega (arith, f .ensures .1 .0 .apart .len, v .ensures .0 .apart .len, i .1, n .ensures .2, s .pre .1 .1 .0 .0) in
+    omega (arith, g .1 .apart .len, v .ensures .0 .apart .len, i .1, n .ensures .2, s .pre .1 .1 .0 .0) in
     let top = top-fits (a .plan) (well-formed-sound _ (s .pre .0 .0)) (n .result) (length (f .last .0)) (f .result) (n .ensures .0) (n .ensures .1) fits
-    (stack-at (c .before .before .before .before .before .before .before .before .before .before .before .before .before .before)) (t .result) (t .ensures) in (
+    (stack-at (c .before .before .before .before .before .before .before .before .before .before .before .before .before .before)) (t .top-of .result) (top-is t) in (
       s .pre .0 .0,
       (
         (
-          omega (arith, m, f .ensures .1 .0 .not-past),
+          omega (arith, m, g .1 .not-past),
           omega (arith, o .few),
           full-last (a .plan) (a .other) (a .states) o _ (omega (arith, taken)),
           omega (arith, i .0, s .pre .1 .1 .0 .1),
@@ -198,10 +215,10 @@ advance-joined-requires c κs =
         (
           (top .0, top .1, omega arith, fits),
           (
-            half-fewer (a .plan) _ (c .before .before .before .before .before .before .before .before .before .before .before .before .before .before .before .before .before .before .before .before .before .before .before .before .before .before .before .before .before .before .before .at-once .result - 1) _ (omega (arith, m, f .ensures .1 .0 .near))
-                (omega (arith, c .before .before .before .before .before .before .before .before .before .before .before .before .before .before .before .before .before .before .before .before .before .before .before .before .before .before .before .before .before .before .before .at-once .ensures .2, f .ensures .1 .1 .0, v .ensures .1 .0, i .2)),
-            omega (arith, f .ensures .1 .1 .0, v .ensures .1 .0, i .2, s .pre .1 .1 .1 .1),
-            omega (arith, f .ensures .1 .1 .1, v .ensures .1 .1, i .3, s .pre .1 .1 .1 .2),
+            half-fewer (a .plan) _ (c .before .before .before .before .before .before .before .before .before .before .before .before .before .before .before .before .before .before .before .before .before .before .before .before .before .before .before .before .before .before .before .at-once .result - 1) _ (omega (arith, m, g .1 .near))
+                (omega (arith, held-once (c .before .before .before .before .before .before .before .before .before .before .before .before .before .before .before .before .before .before .before .before .before .before .before .before .before .before .before .before .before .before .before), f .ensures .1 .0, v .ensures .1 .0, i .2)),
+            omega (arith, f .ensures .1 .0, v .ensures .1 .0, i .2, s .pre .1 .1 .1 .1),
+            omega (arith, f .ensures .1 .1, v .ensures .1 .1, i .3, s .pre .1 .1 .1 .2),
           ),
         ),
       ),
@@ -222,17 +239,18 @@ loop-again c =
     let n = c .before .before .before .before .before .before .before .before .before .before .before .before .before .before .before .before .before .before .before .before .before .before .before .before .before .before .before .before .before .before .before .before .before .before .before .before .before .before .before .states-fitting in
     let v = c .before .before .before .before .before .before .before .before .before .before .before .before .before .before .before .before .before .before .before .before .before .before .before .before .before .before .before .before .before .before .before .before .advance in
     let f = c .before .before .before .before .before .before .before .before .before .before .before .before .before .before .before .before .before .before .before .before .before .fetch in
-    let t = c .before .before .before .before .before .before .before .before .before .before .before .before .before .top-of in
+    let g = fetched (c .before .before .before .before .before .before .before .before .before .before .before .before .before .before .before .before .before .before .before .before .before) _ _ _ (c .before .before .before .before .before .before .before .before .before .before .before .before .before .before .before .before .before .before .before .before .before .fetch .ensures .0) (omega (arith, c .before .before .before .before .before .before .before .before .before .before .before .before .before .before .before .before .before .before .before .before .before .before .before .before .before .before .before .before .before .before .before .before .before .before .before .before .before .before .at-once .ensures .0)) in
+    let t = c .before .before .before .before .before .before .before .before .before .before .before .before .before in
     let m = c .before .before .before .before .before .before .before .before .before .before .before .last-mark in
     let w = c .before .before .before .before .before .before .advance-joined in
-    let turn = linked-turn (a .plan) (a .other) (a .states) (well-formed-sound _ (s .pre .0 .0)) (well-formed-sound _ (s .pre .0 .1)) (s .pre .1 .0) (l .e) (a .states - 1 - l .e) (n .result) (t .result)
+    let turn = linked-turn (a .plan) (a .other) (a .states) (well-formed-sound _ (s .pre .0 .0)) (well-formed-sound _ (s .pre .0 .1)) (s .pre .1 .0) (l .e) (a .states - 1 - l .e) (n .result) (t .top-of .result)
     (m .result) _ (l .stack) (f .result) (a .work .now) (a .best .now) (l .work) (l .best) (v .last .0) (f .last .0) (w .last .0) (l .marks) (f .last .1 .0)
-    (c .before .before .before .before .before .before .before .before .before .before .before .before .before .before .before .before .before .before .before .before .before .before .before .before .before .before .before .before .before .before .before .before .before .before .before .before .loop-test .taken) refl (i .5) (f .ensures .0 .0) (t .ensures) (m .ensures) (i .6) (i .7) (v .ensures .0) (f .ensures .1 .0) (w .ensures .0) in (
+    (c .before .before .before .before .before .before .before .before .before .before .before .before .before .before .before .before .before .before .before .before .before .before .before .before .before .before .before .before .before .before .before .before .before .before .before .before .loop-test .taken) refl (i .5) (g .0 .0) (top-is t) (m .ensures) (i .6) (i .7) (v .ensures .0) (g .1) (w .ensures .0) in (
       w .ensures .1 .1 ∙ i .0,
-      f .ensures .1 .0 .apart .len ∙ v .ensures .0 .apart .len ∙ i .1,
-      w .ensures .1 .0 .0 ∙ f .ensures .1 .1 .0 ∙ v .ensures .1 .0 ∙ i .2,
-      w .ensures .1 .0 .1 ∙ f .ensures .1 .1 .1 ∙ v .ensures .1 .1 ∙ i .3,
-      f .ensures .1 .0 .len ∙ i .4,
+      g .1 .apart .len ∙ v .ensures .0 .apart .len ∙ i .1,
+      w .ensures .1 .0 .0 ∙ f .ensures .1 .0 ∙ v .ensures .1 .0 ∙ i .2,
+      w .ensures .1 .0 .1 ∙ f .ensures .1 .1 ∙ v .ensures .1 .1 ∙ i .3,
+      g .1 .len ∙ i .4,
       stack-at (c .before .before .before .before .before .before .before .before .before .before .before .before .before .before .before .before .before .before .before .before .before),
       turn .0,
       turn .1,
@@ -281,7 +299,7 @@ sweep-linked-spec =
     top-of-requires
     slice-aggregate-last-mark
     last-mark-requires
-    add-t41
+    add-t42
     advance-joined-requires
     add-e
     loop-less

@@ -7,8 +7,8 @@ use borrow.Author.Needs.{needs}
 use lib.ListN.{length, getD, replicate}
 use Rattle.plans.specs.Plans.{halfOf}
 use Rattle.plans.specs.declared.plan.Plan.{Plan}
-use Rattle.sweeps.specs.declared.stack.Stack.{Stack}
-use Rattle.sweeps.proofs.StackLaws.{row-below, state-below}
+use Rattle.stacks.specs.declared.stack.Stack.{Stack}
+use Rattle.stacks.proofs.StackLaws.{row-below, state-below}
 use Rattle.tracing.specs.Following.{Kept, HeldFit}
 use Rattle.tracing.proofs.Sighting.{sight-planes, sight-formed, sight-sound, sight-room, sight-states-few}
 use Rattle.tracing.proofs.Walking.{empty-fits, kept-empty, kept-fetched, top-held, top-fits}

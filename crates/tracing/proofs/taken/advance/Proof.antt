@@ -4,7 +4,7 @@ use mathlib.Core.Logic.{inl}
 use native.Mathlib.Omega.{arith}
 use borrow.Author.Needs.{needs}
 use Rattle.states.proofs.DoorTests.{advances-if}
-use Rattle.sweeps.proofs.StackLaws.{half-one}
+use Rattle.stacks.proofs.StackLaws.{half-one}
 use Rattle.tracing.proofs.taken.advance.Statement.{statement}
 use Rattle.tracing.proofs.taken.advance.Tie as tie
 

@@ -1,7 +1,7 @@
 -- `fetch` meets its contract: what is asked of it is what the door judges.
 use native.Mathlib.Omega.{arith}
 use borrow.Author.Needs.{needs}
-use Rattle.sweeps.proofs.DoorTests.{fetches-if}
+use Rattle.stacks.proofs.DoorTests.{fetches-if}
 use Rattle.tracing.proofs.taken.fetch.Statement.{statement}
 use Rattle.tracing.proofs.taken.fetch.Tie as tie
 

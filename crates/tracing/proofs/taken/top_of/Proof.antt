@@ -1,7 +1,7 @@
 -- `top_of` meets its contract: what is asked of it is what the door judges.
 use mathlib.Core.Path.{sym, _∙_}
 use borrow.Author.Needs.{needs}
-use Rattle.sweeps.proofs.DoorTests.{top-4}
+use Rattle.stacks.proofs.DoorTests.{top-4}
 use Rattle.tracing.proofs.taken.top_of.Statement.{statement}
 use Rattle.tracing.proofs.taken.top_of.Tie as tie
 

@@ -5,7 +5,7 @@ use native.Mathlib.Omega.{arith}
 use Rattle.plans.specs.Plans.{rowsIn, rowSize, stateSize, RowFits}
 use Rattle.plans.proofs.PlanSizes.{rows-few, part-fits}
 use Rattle.states.proofs.SizeLaws.{row-within}
-use Rattle.sweeps.proofs.StackLaws.{row-below}
+use Rattle.stacks.proofs.StackLaws.{row-below}
 use Rattle.walks.proofs.Picking.{Missed, missed-none, missed-more, missed-picked, row-picked}
 use Rattle.walks.proofs.far_end.find_among.Statement.{statement}
 use Rattle.walks.proofs.far_end.find_among.Tie as tie

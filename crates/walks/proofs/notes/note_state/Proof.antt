@@ -6,7 +6,7 @@ use native.Mathlib.Omega.{arith}
 use lib.ListN.{length}
 use Rattle.plans.specs.Plans.{rowsIn, rowSize}
 use Rattle.states.proofs.SizeLaws.{row-within}
-use Rattle.sweeps.proofs.StackLaws.{row-below, state-below}
+use Rattle.stacks.proofs.StackLaws.{row-below, state-below}
 use Rattle.walks.specs.Noting.{Lifted, FromState}
 use Rattle.walks.specs.Endings.{endedIn}
 use Rattle.walks.proofs.Noting.{steps-fit, state-lifted-none, state-lifted-more, row-in-state}

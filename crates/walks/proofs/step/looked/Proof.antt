@@ -4,7 +4,7 @@ use native.Mathlib.Omega.{arith}
 use borrow.Author.Needs.{needs}
 use Rattle.plans.proofs.PlanSizes.{part-fits}
 use Rattle.states.proofs.SizeLaws.{row-within}
-use Rattle.sweeps.proofs.StackLaws.{row-below}
+use Rattle.stacks.proofs.StackLaws.{row-below}
 use Rattle.walks.proofs.Picking.{looked-under, looked-over, looked-low, looked-high}
 use Rattle.walks.proofs.step.looked.Statement.{statement}
 use Rattle.walks.proofs.step.looked.Tie as tie
