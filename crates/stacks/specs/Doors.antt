@@ -1,9 +1,9 @@
 -- Which calls of the stack are taken: the plan can be followed, and what is lent has room. A call that is not taken changes nothing. These
 -- definitions serve contracts inside the engine only: no public contract cites them.
-use Prim.Native.Nat.{ℕ, _+_, _-_, _*_}
+use Prim.Native.Nat.{ℕ, _+_, _-_, _*_, _/_, min}
 use mathlib.Core.Bool.{Bool, cond, _&&_}
 use lib.Dec.{leb, ltb}
-use Rattle.plans.specs.Plans.{keysSize, stateSize}
+use Rattle.plans.specs.Plans.{keysSize, stateSize, blockOf}
 use Rattle.plans.specs.Forms.{among, wellFormed}
 use Rattle.plans.specs.declared.plan.Plan.{Plan}
 use Rattle.states.specs.Doors.{canHold}
@@ -28,3 +28,11 @@ hasTop p s = wellFormed p && leb (s .depth) 64 && ltb (s .base) 16777216
 
 unfoldable pub topOf : Plan → Stack → ℕ
 topOf p s = cond (hasTop p s) (s .base + (s .depth - 1) * stateSize p) 0
+
+-- how many states are made at once where they are linked: as many rows as find room twice in the held numbers, less that of the state before, up to six
+abbrev pub linkedAtOnce : Plan → (held : ℕ) → ℕ
+linkedAtOnce p held = cond (p .linked) (min (held / 2 / blockOf p - 1) 6) 1
+
+-- one where the plan cannot be followed with what is lent
+unfoldable pub atOnce : Plan → (held below : ℕ) → ℕ
+atOnce p held below = cond (canHold p held below) (linkedAtOnce p held) 1

@@ -9,7 +9,7 @@ ghost use Rattle.plans.specs.Plans.{halfWith};
 ghost use Rattle.plans.specs.Forms.{wellFormed};
 ghost use Rattle.states.specs.Doors.{canHold};
 ghost use Rattle.stacks.specs.Stacks.{Fetched};
-ghost use Rattle.stacks.specs.Doors.{stackFits, fetches, topOf};
+ghost use Rattle.stacks.specs.Doors.{stackFits, fetches, topOf, atOnce};
 use crate::stack;
 use crate::stack::Stack;
 use plans::Plan;
@@ -89,6 +89,7 @@ pub fn top_of(plan: Plan, stack: Stack) -> usize
 // How many states are made at once with so many held numbers, up to six; one, where the plan cannot be
 // followed with them.
 pub fn at_once(plan: Plan, held: usize, below: usize) -> usize
+    ensures { λ r. ⌜ r ≡ atOnce plan held below ⌝ }
     ensures { λ r. ⌜ (1 ≤ r) × (r ≤ 6) ⌝ }
     ensures { λ r. ⌜ either (canHold plan held below) (halfWith plan (r - 1) + halfWith plan (r - 1) ≤ held) (r ≡ 1) ⌝ }
 {

@@ -9,6 +9,7 @@ ghost use Prim.Native.Nat.{_+_, _-_, _*_, _≤_, _<_, min};
 ghost use lib.ListN.{length};
 ghost use Rattle.plans.specs.Plans.{stateSize, keysSize, halfOf, halfWith};
 ghost use Rattle.plans.specs.Forms.{wellFormed};
+ghost use Rattle.stacks.specs.Doors.{linkedAtOnce};
 ghost use Rattle.stacks.specs.Stacks.{StackFits, RunOn, Pushed, Fetched, lastMark};
 use crate::taken::advance;
 use plans::MARGIN;
@@ -136,6 +137,7 @@ pub fn last_mark(marks: &[usize], depth: usize) -> usize
 // rows no longer lie near the processor. States that are not linked have nothing in common.
 pub(crate) fn at_once(plan: Plan, held: usize) -> usize
     requires { ⌜ (wellFormed plan ≡ true) × (halfOf plan + halfOf plan ≤ held) ⌝ }
+    ensures { λ r. ⌜ r ≡ linkedAtOnce plan held ⌝ }
     ensures { λ r. ⌜ (1 ≤ r) × (r ≤ 6) × (halfWith plan (r - 1) + halfWith plan (r - 1) ≤ held) ⌝ }
 {
     if !plan.linked {

@@ -39,13 +39,6 @@ held-by held slot planes pitch lo hi lo₁ hi₁ f g h el eh same =
           ∙ in-row-same lo₁ hi₁ X (f j) (g j) (λ x a b. same j x hj a b);
     }
 
--- a run that is filled
-pub apart-run : (f : ℕ → ℕ) (old new : List ℕ) (lo hi : ℕ) → Between f old new lo hi → Apart old new lo hi
-apart-run f old new lo hi b = record { under = b .under; over = b .over; len = b .len }
-
-pub apart-none : (old : List ℕ) (lo hi : ℕ) → Apart old old lo hi
-apart-none old lo hi = record { under = λ k h. refl; over = λ k h. refl; len = refl }
-
 pub apart-of : (old new : List ℕ) (lo n n₁ : ℕ) → n₁ ≡ n → Apart old new lo (lo + n) → Apart old new lo (lo + n₁)
 apart-of old new lo n n₁ e a = subst (λ (q : ℕ). Apart old new lo (lo + q)) (sym e) a
 

@@ -1,9 +1,11 @@
 -- `at_once` meets its contract: so many rows as find room twice in the held numbers are those of one state fewer and of the one before.
 use Prim.Native.Nat.{_+_, _*_, _/_, _≤_}
+use mathlib.Core.Path.{_≡_, refl}
+use mathlib.Core.Bool.{true, false}
 use native.Mathlib.Nat.{mul-le-mul}
 use native.Mathlib.Omega.{arith}
 use borrow.Author.Needs.{needs}
-use borrow.Author.Tests.{not-false}
+use borrow.Author.Tests.{not-true, not-false}
 use Rattle.plans.specs.Plans.{blockOf}
 use Rattle.plans.proofs.FormLaws.{well-formed-sound}
 use Rattle.states.proofs.SizeLaws.{block-small, half-linked}
@@ -24,7 +26,10 @@ two e =
     two-places (s .args .held / 2) (blockOf (s .args .plan)) (block s .0) (omega (arith, half-linked (s .args .plan) (not-false _ (e .if1 .left)), s .pre .1))
 
 returns : tie.Need-returns
-returns c = let s = c .before .before in (omega arith, omega arith, omega (arith, s .pre .1))
+returns c =
+    let s = c .before .before in
+    let apart : s .args .plan .linked ≡ false = not-true _ (c .if1 .taken) in
+    (rw apart refl, (omega arith, omega arith, omega (arith, s .pre .1)))
 
 add-lesser : tie.Need-add-lesser
 add-lesser c = omega (arith, well-formed-sound _ (c .before .before .before .pre .0) .few-across)
@@ -45,10 +50,14 @@ returns-2 : tie.Need-returns-2
 returns-2 c =
     let s = c .before .before .before .before .before in
     let e = c .before .before .before in
-    let r = c .lesser .ensures in (
-      omega (arith, r, two e),
-      omega (arith, r),
-      half-many (s .args .plan) (s .args .held) (c .lesser .result) (not-false _ (e .if1 .left)) (omega (arith, r, two e)) (omega (arith, r, two e)),
+    let r = c .lesser .ensures in
+    let linked : s .args .plan .linked ≡ true = not-false _ (e .if1 .left) in (
+      rw linked r,
+      (
+        omega (arith, r, two e),
+        omega (arith, r),
+        half-many (s .args .plan) (s .args .held) (c .lesser .result) linked (omega (arith, r, two e)) (omega (arith, r, two e)),
+      ),
     )
 
 pub at-once-spec : {M : Type 1} → statement M

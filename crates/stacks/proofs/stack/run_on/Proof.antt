@@ -29,7 +29,7 @@ fits s =
 -- so many states find room among the held rows as are made at once
 held : (o : tie.After-at-once Inv-loop μ-loop) (n size : ℕ) → let a = o .before .before .before .before .args in n ≤ o .at-once .result - 1 →
     size ≡ length (a .held .now) → halfWith (a .plan) n + halfWith (a .plan) n ≤ size
-held o n size l e = half-fewer _ n _ size l (omega (arith, o .at-once .ensures .2))
+held o n size l e = half-fewer _ n _ size l (omega (arith, o .at-once .ensures .1 .2))
 
 at-once-requires : tie.Need-at-once-requires Inv-loop μ-loop
 at-once-requires c κs = let s = c .before .before .before in (s .pre .0, s .pre .1 .1 .1 .0)

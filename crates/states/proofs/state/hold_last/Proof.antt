@@ -8,7 +8,8 @@ use borrow.Author.Tests.{not-true, not-false}
 use Rattle.plans.specs.Plans.{blockOf, halfOf}
 use Rattle.states.proofs.TurnedLaws.{turned-high, numbers-filled}
 use Rattle.states.proofs.SizeLaws.{block-small, row-small, row-before, row-within, row-fits, half-linked}
-use Rattle.states.proofs.HoldingLaws.{last-none, last-some, last-unlinked, apart-none, apart-run, apart-of}
+use Rattle.states.proofs.PlaneLaws.{apart-none, apart-run}
+use Rattle.states.proofs.HoldingLaws.{last-none, last-some, last-unlinked, apart-of}
 use Rattle.states.proofs.state.hold_last.Statement.{statement}
 use Rattle.states.proofs.state.hold_last.Tie as tie
 
@@ -70,7 +71,7 @@ returns-2 : tie.Need-returns-2
 returns-2 c =
     let e = c .before .before .before .before .before .before in
     let r = numbers-filled _ _ _ _ _ _ (c .before .before .fill-run .ensures) (omega (arith, room (e .before), e .before .before .before .before .before .pre .1 .2)) (turned-high 32768 (omega arith)) in
-    (last-none _ _ _ _ _ _ _ _ _ r refl (c .before .before .before .before .before .before .if2 .taken), apart-of _ _ _ _ _ (room (c .before .before .before .before .before .before .before)) (apart-run _ _ _ _ _ r))
+    (last-none _ _ _ _ _ _ _ _ _ r refl (c .before .before .before .before .before .before .if2 .taken), apart-of _ _ _ _ _ (room (c .before .before .before .before .before .before .before)) (apart-run _ _ _ _ _ _ _ r (omega arith) (omega arith)))
 
 same-length-2 : tie.Need-same-length-2
 same-length-2 c = search needs

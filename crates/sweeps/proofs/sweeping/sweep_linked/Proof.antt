@@ -66,10 +66,10 @@ held-once : (o : tie.After-at-once Inv-loop μ-loop) → let a = o .before .befo
 held-once o =
     let s = o .before .before .before .before .before .before .before .before .before in
     let h = s .pre .1 .1 .1 in
-    rw (hold-if (s .args .plan) (length (s .args .held .now)) (length (s .args .below .now)) (s .pre .0 .0) (h .0) (h .1) (h .2)) at (o .at-once .ensures .1)
+    rw (hold-if (s .args .plan) (length (s .args .held .now)) (length (s .args .below .now)) (s .pre .0 .0) (h .0) (h .1) (h .2)) at (o .at-once .ensures .1 .1)
 
 sub-spare : tie.Need-sub-spare Inv-loop μ-loop
-sub-spare c = omega (arith, c .at-once .ensures .0 .0)
+sub-spare c = omega (arith, c .at-once .ensures .1 .0 .0)
 
 loop-holds : tie.Need-loop-holds Inv-loop μ-loop
 loop-holds c =
@@ -160,7 +160,7 @@ top-of-requires c κs = search needs
 stack-at : (f : tie.After-fetch Inv-loop μ-loop) → let a = f .before .before .before .before .before .before .before .before .before .before .before .before .before .before .before .before .before .before .before .before .before .before .before .before .before .before .args in
     StackAt (a .plan) (f .before .before .before .before .before .before .before .before .before .before .before .before .before .before .before .before .before .before .states-fitting .result) (f .fetch .result)
 stack-at f =
-    let e = fetched f _ _ _ (f .fetch .ensures .0) (omega (arith, f .before .before .before .before .before .before .before .before .before .before .before .before .before .before .before .before .before .at-once .ensures .0)) .0 in
+    let e = fetched f _ _ _ (f .fetch .ensures .0) (omega (arith, f .before .before .before .before .before .before .before .before .before .before .before .before .before .before .before .before .before .at-once .ensures .1 .0)) .0 in
     let i = f .before .before .before .before .before .before .before .before .before .before .before .before .before .before .before .before .loop .inv .5 in
     record { is-base = e .0 ∙ i .is-base; is-places = e .1 ∙ i .is-places; deep = omega (arith, e .2, i .is-places) }
 
@@ -176,7 +176,7 @@ top-is t =
     (omega (arith, k .is-base, well-formed-sound _ (s .pre .0 .0) .few-pixels)))
 
 slice-aggregate-last-mark : tie.Need-slice-aggregate-last-mark Inv-loop μ-loop
-slice-aggregate-last-mark c = sym (fetched (c .before .before .before .before .before .before .before .before .before) _ _ _ (c .before .before .before .before .before .before .before .before .before .fetch .ensures .0) (omega (arith, c .before .before .before .before .before .before .before .before .before .before .before .before .before .before .before .before .before .before .before .before .before .before .before .before .before .before .at-once .ensures .0)) .1 .len ∙ c .before .before .before .before .before .before .before .before .before .before .before .before .before .before .before .before .before .before .before .before .before .before .before .before .before .loop .inv .4)
+slice-aggregate-last-mark c = sym (fetched (c .before .before .before .before .before .before .before .before .before) _ _ _ (c .before .before .before .before .before .before .before .before .before .fetch .ensures .0) (omega (arith, c .before .before .before .before .before .before .before .before .before .before .before .before .before .before .before .before .before .before .before .before .before .before .before .before .before .before .at-once .ensures .1 .0)) .1 .len ∙ c .before .before .before .before .before .before .before .before .before .before .before .before .before .before .before .before .before .before .before .before .before .before .before .before .before .loop .inv .4)
 
 last-mark-requires : tie.Need-last-mark-requires Inv-loop μ-loop
 last-mark-requires c κs = search needs
@@ -196,7 +196,7 @@ advance-joined-requires c κs =
     let n = c .before .before .before .before .before .before .before .before .before .before .before .before .before .before .before .before .before .before .before .before .before .before .before .before .before .before .before .before .before .before .before .before .states-fitting in
     let v = c .before .before .before .before .before .before .before .before .before .before .before .before .before .before .before .before .before .before .before .before .before .before .before .before .before .advance in
     let f = c .before .before .before .before .before .before .before .before .before .before .before .before .before .before .fetch in
-    let g = fetched (c .before .before .before .before .before .before .before .before .before .before .before .before .before .before) _ _ _ (c .before .before .before .before .before .before .before .before .before .before .before .before .before .before .fetch .ensures .0) (omega (arith, c .before .before .before .before .before .before .before .before .before .before .before .before .before .before .before .before .before .before .before .before .before .before .before .before .before .before .before .before .before .before .before .at-once .ensures .0)) in
+    let g = fetched (c .before .before .before .before .before .before .before .before .before .before .before .before .before .before) _ _ _ (c .before .before .before .before .before .before .before .before .before .before .before .before .before .before .fetch .ensures .0) (omega (arith, c .before .before .before .before .before .before .before .before .before .before .before .before .before .before .before .before .before .before .before .before .before .before .before .before .before .before .before .before .before .before .before .at-once .ensures .1 .0)) in
     let t = c .before .before .before .before .before .before in
     let m = c .before .before .before .before .last-mark .ensures in
     let taken = c .before .before .before .before .before .before .before .before .before .before .before .before .before .before .before .before .before .before .before .before .before .before .before .before .before .before .before .before .before .loop-test .taken in
@@ -239,7 +239,7 @@ loop-again c =
     let n = c .before .before .before .before .before .before .before .before .before .before .before .before .before .before .before .before .before .before .before .before .before .before .before .before .before .before .before .before .before .before .before .before .before .before .before .before .before .before .before .states-fitting in
     let v = c .before .before .before .before .before .before .before .before .before .before .before .before .before .before .before .before .before .before .before .before .before .before .before .before .before .before .before .before .before .before .before .before .advance in
     let f = c .before .before .before .before .before .before .before .before .before .before .before .before .before .before .before .before .before .before .before .before .before .fetch in
-    let g = fetched (c .before .before .before .before .before .before .before .before .before .before .before .before .before .before .before .before .before .before .before .before .before) _ _ _ (c .before .before .before .before .before .before .before .before .before .before .before .before .before .before .before .before .before .before .before .before .before .fetch .ensures .0) (omega (arith, c .before .before .before .before .before .before .before .before .before .before .before .before .before .before .before .before .before .before .before .before .before .before .before .before .before .before .before .before .before .before .before .before .before .before .before .before .before .before .at-once .ensures .0)) in
+    let g = fetched (c .before .before .before .before .before .before .before .before .before .before .before .before .before .before .before .before .before .before .before .before .before) _ _ _ (c .before .before .before .before .before .before .before .before .before .before .before .before .before .before .before .before .before .before .before .before .before .fetch .ensures .0) (omega (arith, c .before .before .before .before .before .before .before .before .before .before .before .before .before .before .before .before .before .before .before .before .before .before .before .before .before .before .before .before .before .before .before .before .before .before .before .before .before .before .at-once .ensures .1 .0)) in
     let t = c .before .before .before .before .before .before .before .before .before .before .before .before .before in
     let m = c .before .before .before .before .before .before .before .before .before .before .before .last-mark in
     let w = c .before .before .before .before .before .before .advance-joined in
