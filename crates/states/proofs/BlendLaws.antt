@@ -168,19 +168,6 @@ module _ (p : Plan) (t0 t1 t2 to size lo n T0 T1 T2 TO : ℕ) (keys old : List �
       blending-more p t0 t1 t2 to size lo n 0 T0 T1 T2 TO clear room l at-taps old old Key (planes-none _ _ old (to - 1) (pitchOf p)) _ new under below b u
       (λ x m. rw (key-at x, place x) (omega arith))
 
-  -- the same where it is the only one, and nothing is kept
-  pub plane-sole :
-      (new : List ℕ) →
-      p .planes ≡ 1 →
-      TapsAt T0 T1 T2 TO t0 t1 t2 to lo (0 * pitchOf p) →
-      Between (λ k. min (getD keys (at + (k - TO)) 0) (greatestAt old T0 T1 T2 (k - TO))) old new TO (TO + n) →
-      Planes (In (lo + 1) (lo + n + 1)) (λ j X. blended old (pitchOf p) t0 t1 t2 Key j (X - 1)) old new (to - 1) (pitchOf p) (p .planes)
-  unfolding layerAhead
-  plane-sole new sole at-taps b =
-      subst (λ (m : ℕ). Planes (In (lo + 1) (lo + n + 1)) (λ j X. blended old (pitchOf p) t0 t1 t2 Key j (X - 1)) old new (to - 1) (pitchOf p) m) (sym sole)
-      (plane-more p t0 t1 t2 to size lo n 0 T0 T1 T2 TO clear room (omega arith) at-taps old old Key (planes-none _ _ old (to - 1) (pitchOf p)) _ new b
-      (λ x m. rw (key-at x, place x) (omega arith)))
-
   -- a higher plane
   pub blending-next :
       (mid new under below : List ℕ) (past : ℕ) →

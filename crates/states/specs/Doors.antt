@@ -9,17 +9,17 @@ use Rattle.plans.specs.declared.plan.Plan.{Plan}
 use Rattle.states.specs.declared.state.Stretch.{Stretch}
 use Rattle.states.specs.States.{furtherIn}
 
--- the lengths of `held` and `below` suffice for two rows of each state, where `more` are made at once with the first, and for one plane
-unfoldable pub heldFits : Plan → (more held below : ℕ) → Bool
-heldFits p more held below = leb (halfWith p more + halfWith p more) held && leb held 40000 && leb (p .across + 7) below
+-- the length of `held` suffices for two rows of each state, where `more` are made at once with the first
+unfoldable pub heldFits : Plan → (more held : ℕ) → Bool
+heldFits p more held = leb (halfWith p more + halfWith p more) held && leb held 40000
 
 -- a plan that can be followed, with room for the held rows of one state
-unfoldable pub canHold : Plan → (held below : ℕ) → Bool
-canHold p held below = wellFormed p && heldFits p 0 held below
+unfoldable pub canHold : Plan → ℕ → Bool
+canHold p held = wellFormed p && heldFits p 0 held
 
 -- a plan that can be followed and states of it, with room for the held rows of all of them
-unfoldable pub canMake : Plan → Stretch → (held below : ℕ) → Bool
-canMake p s held below = wellFormed p && ltb (s .first) (s .past) && leb (s .past) 65536 && heldFits p (furtherIn s) held below
+unfoldable pub canMake : Plan → Stretch → ℕ → Bool
+canMake p s held = wellFormed p && ltb (s .first) (s .past) && leb (s .past) 65536 && heldFits p (furtherIn s) held
 
 -- a state stands behind the keys and within so many numbers of work
 unfoldable pub stateFits : Plan → ℕ → ℕ → Bool
@@ -29,14 +29,14 @@ stateFits p at work = leb (keysSize p) at && leb (at + stateSize p) work
 unfoldable pub sameOrApart : Plan → ℕ → ℕ → Bool
 sameOrApart p from to = eqb from to || leb (from + stateSize p) to || leb (to + stateSize p) from
 
--- the states of a stretch from the one at `from`, the last to `to`, with so many numbers of work, held and below
-unfoldable pub advances : Plan → Stretch → (from to work held below : ℕ) → Bool
-advances p s from to work held below = canMake p s held below && stateFits p from work && stateFits p to work && sameOrApart p from to
+-- the states of a stretch from the one at `from`, the last to `to`, with so many numbers of work and held
+unfoldable pub advances : Plan → Stretch → (from to work held : ℕ) → Bool
+advances p s from to work held = canMake p s held && stateFits p from work && stateFits p to work && sameOrApart p from to
 
 -- the states of a stretch from the one at `from`; the last, which has all rows, is joined with the one at `ends`
-unfoldable pub joins : Plan → Stretch → (from ends best work held below : ℕ) → Bool
-joins p s from ends best work held below =
-    canMake p s held below
+unfoldable pub joins : Plan → Stretch → (from ends best work held : ℕ) → Bool
+joins p s from ends best work held =
+    canMake p s held
     && eqb (rowsIn p (s .past - 1)) (p .rows)
     && stateFits p from work
     && stateFits p ends work

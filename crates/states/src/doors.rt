@@ -28,33 +28,30 @@ pub fn lies_in(at: usize, n: usize, len: usize) -> bool
 }
 
 // Whether the held rows find room, where `more` states are made at once with the first.
-fn held_fits(plan: Plan, more: usize, held: usize, below: usize) -> bool
+fn held_fits(plan: Plan, more: usize, held: usize) -> bool
     requires { ⌜ (wellFormed plan ≡ true) × (more < 65536) ⌝ }
-    ensures { λ r. ⌜ r ≡ heldFits plan more held below ⌝ }
+    ensures { λ r. ⌜ r ≡ heldFits plan more held ⌝ }
 {
     let half = half_with(plan, more);
     if half + half > held {
         return false;
     }
-    if held > 40000 {
-        return false;
-    }
-    plan.across + 7 <= below
+    held <= 40000
 }
 
 // Whether the plan can be followed and the held rows of one state find room.
-pub fn can_hold(plan: Plan, held: usize, below: usize) -> bool
-    ensures { λ r. ⌜ r ≡ canHold plan held below ⌝ }
+pub fn can_hold(plan: Plan, held: usize) -> bool
+    ensures { λ r. ⌜ r ≡ canHold plan held ⌝ }
 {
     if !plans::is_well_formed(plan) {
         return false;
     }
-    held_fits(plan, 0, held, below)
+    held_fits(plan, 0, held)
 }
 
 // Whether the plan can be followed, it has these states, and their held rows find room.
-fn can_make(plan: Plan, states: Stretch, held: usize, below: usize) -> bool
-    ensures { λ r. ⌜ r ≡ canMake plan states held below ⌝ }
+fn can_make(plan: Plan, states: Stretch, held: usize) -> bool
+    ensures { λ r. ⌜ r ≡ canMake plan states held ⌝ }
 {
     if !plans::is_well_formed(plan) {
         return false;
@@ -65,7 +62,7 @@ fn can_make(plan: Plan, states: Stretch, held: usize, below: usize) -> bool
     if states.past > 65536 {
         return false;
     }
-    held_fits(plan, states.past - 1 - states.first, held, below)
+    held_fits(plan, states.past - 1 - states.first, held)
 }
 
 // Whether a state at this place finds room behind the keys.
@@ -102,11 +99,10 @@ fn can_advance(
     to: usize,
     work: usize,
     held: usize,
-    below: usize,
 ) -> bool
-    ensures { λ r. ⌜ r ≡ advances plan states from to work held below ⌝ }
+    ensures { λ r. ⌜ r ≡ advances plan states from to work held ⌝ }
 {
-    if !can_make(plan, states, held, below) {
+    if !can_make(plan, states, held) {
         return false;
     }
     if !state_fits(plan, from, work) {
@@ -119,24 +115,23 @@ fn can_advance(
 }
 
 // States from the one before at `from`, the last of them at `to`, which may be the same place; the keys
-// stand at the beginning of the work buffer. What `held` and `below` then hold is free.
+// stand at the beginning of the work buffer. What `held` then holds is free.
 pub fn advance(
     work: &mut [u16],
     held: &mut [u16],
-    below: &mut [u16],
     plan: Plan,
     states: Stretch,
     from: usize,
     to: usize,
 ) -> bool
-    ensures { λ r. ⌜ r ≡ advances plan states from to (length (now (work .entry))) (length (now (held .entry))) (length (now (below .entry))) ⌝ }
+    ensures { λ r. ⌜ r ≡ advances plan states from to (length (now (work .entry))) (length (now (held .entry))) ⌝ }
     ensures { λ r. ⌜ either r (Advanced plan (states .first) (states .past) (now (work .entry)) (now (work .exit)) from to) (now (work .exit) ≡ now (work .entry)) ⌝ }
-    ensures { λ r. ⌜ (length (now (held .exit)) ≡ length (now (held .entry))) × (length (now (below .exit)) ≡ length (now (below .entry))) ⌝ }
+    ensures { λ r. ⌜ length (now (held .exit)) ≡ length (now (held .entry)) ⌝ }
 {
-    if !can_advance(plan, states, from, to, work.len(), held.len(), below.len()) {
+    if !can_advance(plan, states, from, to, work.len(), held.len()) {
         return false;
     }
-    make_states(work, held, below, plan, states, from, to);
+    make_states(work, held, plan, states, from, to);
     true
 }
 
@@ -149,11 +144,10 @@ fn can_join(
     best: usize,
     work: usize,
     held: usize,
-    below: usize,
 ) -> bool
-    ensures { λ r. ⌜ r ≡ joins plan states from ends best work held below ⌝ }
+    ensures { λ r. ⌜ r ≡ joins plan states from ends best work held ⌝ }
 {
-    if !can_make(plan, states, held, below) {
+    if !can_make(plan, states, held) {
         return false;
     }
     if plans::rows_in(plan, states.past - 1) != plan.rows {
@@ -174,30 +168,20 @@ pub fn advance_joined(
     best: &mut [u16],
     work: &[u16],
     held: &mut [u16],
-    below: &mut [u16],
     plan: Plan,
     states: Stretch,
     from: usize,
     ends: usize,
 ) -> bool
-    ensures { λ r. ⌜ r ≡ joins plan states from ends (length (now (best .entry))) (length (now (work .entry))) (length (now (held .entry))) (length (now (below .entry))) ⌝ }
+    ensures { λ r. ⌜ r ≡ joins plan states from ends (length (now (best .entry))) (length (now (work .entry))) (length (now (held .entry))) ⌝ }
     ensures { λ r. ⌜ either r (Joined plan (states .first) (states .past) (now (work .entry)) (now (best .entry)) (now (best .exit)) from ends) (now (best .exit) ≡ now (best .entry)) ⌝ }
-    ensures { λ r. ⌜ (length (now (held .exit)) ≡ length (now (held .entry))) × (length (now (below .exit)) ≡ length (now (below .entry))) ⌝ }
+    ensures { λ r. ⌜ length (now (held .exit)) ≡ length (now (held .entry)) ⌝ }
     ensures { λ r. ⌜ length (now (best .exit)) ≡ length (now (best .entry)) ⌝ }
 {
-    if !can_join(
-        plan,
-        states,
-        from,
-        ends,
-        best.len(),
-        work.len(),
-        held.len(),
-        below.len(),
-    ) {
+    if !can_join(plan, states, from, ends, best.len(), work.len(), held.len()) {
         return false;
     }
-    make_joined(best, work, held, below, plan, states, from, ends);
+    make_joined(best, work, held, plan, states, from, ends);
     true
 }
 

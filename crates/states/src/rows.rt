@@ -12,7 +12,6 @@ use crate::runs::NOTHING;
 use crate::runs::Taps;
 use crate::runs::blend_first;
 use crate::runs::blend_next;
-use crate::runs::blend_sole;
 use crate::runs::fill_run;
 use crate::runs::fold_run;
 use crate::runs::raise_run;
@@ -153,42 +152,23 @@ fn higher(taps: Taps, pitch: usize) -> Taps
 }
 
 // A row made of held ones: `taps` are where pixel 0 of plane 0 finds its three numbers, and where it is.
-pub(crate) fn blend_row(
-    held: &mut [u16],
-    below: &mut [u16],
-    keys: &[u16],
-    plan: Plan,
-    row: Row,
-    taps: Taps,
-)
+pub(crate) fn blend_row(held: &mut [u16], keys: &[u16], plan: Plan, row: Row, taps: Taps)
     requires { ⌜ (RowOf plan row) × (TapsOf plan (taps .t0) (taps .t1) (taps .t2) (taps .to) (length (now held))) ⌝ }
-    requires { ⌜ (row .at + plan .across ≤ length (now keys)) × (plan .across + 7 ≤ length (now below)) × (length (now held) ≤ 40000) ⌝ }
+    requires { ⌜ (row .at + plan .across ≤ length (now keys)) × (length (now held) ≤ 40000) ⌝ }
     ensures { λ _. ⌜ RowHeld (numbers (now (held .exit))) (taps .to - 1) (plan .planes) (pitchOf plan) (row .lo) (row .hi) (blended (numbers (now (held .entry))) (pitchOf plan) (taps .t0) (taps .t1) (taps .t2) (λ (x : ℕ). getD (now (keys .entry)) (row .at + x) 0)) ⌝ }
     ensures { λ _. ⌜ Apart (numbers (now (held .entry))) (numbers (now (held .exit))) (taps .to - 1) (taps .to - 1 + blockOf plan) ⌝ }
 {
     let at = row.at + row.lo;
     let n = run_of(row, keys.len() - at);
     let mut run = higher(taps, row.lo);
-    blend_first(held, below, keys, at, run, n);
+    let mut below = [0u16; 1032];
+    blend_first(held, &mut below, keys, at, run, n);
     let mut j = 1;
     while j < plan.planes {
         run = higher(run, plan.across + MARGIN);
-        blend_next(held, below, keys, at, run, n);
+        blend_next(held, &mut below, keys, at, run, n);
         j += 1;
     }
-    guard(held, taps.to - 1, plan, row);
-}
-
-// The same where there is one plane: nothing is kept for another.
-pub(crate) fn blend_sole_row(held: &mut [u16], keys: &[u16], plan: Plan, row: Row, taps: Taps)
-    requires { ⌜ (RowOf plan row) × (TapsOf plan (taps .t0) (taps .t1) (taps .t2) (taps .to) (length (now held))) ⌝ }
-    requires { ⌜ (row .at + plan .across ≤ length (now keys)) × (plan .planes ≡ 1) × (length (now held) ≤ 40000) ⌝ }
-    ensures { λ _. ⌜ RowHeld (numbers (now (held .exit))) (taps .to - 1) (plan .planes) (pitchOf plan) (row .lo) (row .hi) (blended (numbers (now (held .entry))) (pitchOf plan) (taps .t0) (taps .t1) (taps .t2) (λ (x : ℕ). getD (now (keys .entry)) (row .at + x) 0)) ⌝ }
-    ensures { λ _. ⌜ Apart (numbers (now (held .entry))) (numbers (now (held .exit))) (taps .to - 1) (taps .to - 1 + blockOf plan) ⌝ }
-{
-    let at = row.at + row.lo;
-    let n = run_of(row, keys.len() - at);
-    blend_sole(held, keys, at, higher(taps, row.lo), n);
     guard(held, taps.to - 1, plan, row);
 }
 

@@ -101,20 +101,6 @@ fn greatest_of(held: &[u16], taps: Taps, x: usize) -> u16
     )
 }
 
-// A run of the only plane: held[to + x] is the lower of key[at + x] and the greatest of the three.
-pub(crate) fn blend_sole(held: &mut [u16], key: &[u16], at: usize, taps: Taps, n: usize)
-    requires { ⌜ TapsFit (taps .t0) (taps .t1) (taps .t2) (taps .to) n (length (now held)) ⌝ }
-    requires { ⌜ at + n ≤ length (now key) ⌝ }
-    ensures { λ _. ⌜ Between (λ (k : ℕ). min (getD (now (key .entry)) (at + (k - taps .to)) 0) (greatestAt (numbers (now (held .entry))) (taps .t0) (taps .t1) (taps .t2) (k - taps .to))) (numbers (now (held .entry))) (numbers (now (held .exit))) (taps .to) (taps .to + n) ⌝ }
-{
-    let mut x = 0;
-    while x < n {
-        let m = greatest_of(held, taps, x);
-        held[taps.to + x] = lower(turn(key[at + x]), m);
-        x += 1;
-    }
-}
-
 // A run of the lowest of several planes: held[to + x] is the lower of key[at + x] and the greatest of the three, which
 // below[x] keeps for the next plane.
 pub(crate) fn blend_first(

@@ -12,7 +12,6 @@ ghost use Rattle.plans.specs.Plans.{Sound, rowsIn, rowLo, rowHi, rowAt, stateSi
 ghost use Rattle.states.specs.States.{Advanced, Joined, furtherIn};
 ghost use Rattle.states.specs.Holding.{Slotted, Halves, MadeRow, NextRows, LastRow, tapOf};
 use crate::rows::blend_row;
-use crate::rows::blend_sole_row;
 use crate::rows::join_row;
 use crate::rows::load_row;
 use crate::rows::start_row;
@@ -134,20 +133,11 @@ fn hold_last(
 }
 
 // Row m of state e, made of the rows of the number before and of the last state's row m, which is held.
-fn make_row(
-    held: &mut [u16],
-    below: &mut [u16],
-    work: &[u16],
-    plan: Plan,
-    e: usize,
-    m: usize,
-    slots: Slots,
-)
+fn make_row(held: &mut [u16], work: &[u16], plan: Plan, e: usize, m: usize, slots: Slots)
     requires { ⌜ Sound plan ⌝ }
     requires { ⌜ (e < 65536) × (m < rowsIn plan e) × (keysSize plan ≤ length (now work)) ⌝ }
-    requires { ⌜ (Slotted plan slots (length (now held))) × (plan .across + 7 ≤ length (now below)) ⌝ }
+    requires { ⌜ Slotted plan slots (length (now held)) ⌝ }
     ensures { λ _. ⌜ MadeRow plan e m (now (work .entry)) slots (numbers (now (held .entry))) (numbers (now (held .exit))) ⌝ }
-    ensures { λ _. ⌜ length (now (below .exit)) ≡ length (now (below .entry)) ⌝ }
 {
     let row = row_in(plan, e, m);
     if starts_at(plan, e, m) {
@@ -160,47 +150,33 @@ fn make_row(
         t2: tap(plan, slots, plan.reach.y2, plan.reach.x2),
         to: slots.now + 1,
     };
-    if plan.planes == 1 {
-        blend_sole_row(held, work, plan, row, taps);
-        return;
-    }
-    blend_row(held, below, work, plan, row, taps);
+    blend_row(held, work, plan, row, taps);
 }
 
 // Row m of all states, that of the last one first in its half, so that beside the row of each is that of
 // the one before; beside that of the first it is held already.
-fn next_rows(
-    held: &mut [u16],
-    below: &mut [u16],
-    work: &[u16],
-    plan: Plan,
-    states: Stretch,
-    m: usize,
-    slots: Slots,
-)
+fn next_rows(held: &mut [u16], work: &[u16], plan: Plan, states: Stretch, m: usize, slots: Slots)
     requires { ⌜ (Sound plan) × (states .first < states .past) × (states .past ≤ 65536) ⌝ }
     requires { ⌜ (m < rowsIn plan (states .past - 1)) × (keysSize plan ≤ length (now work)) ⌝ }
-    requires { ⌜ (Halves plan (furtherIn states) slots (length (now held))) × (plan .across + 7 ≤ length (now below)) ⌝ }
+    requires { ⌜ Halves plan (furtherIn states) slots (length (now held)) ⌝ }
     ensures { λ _. ⌜ NextRows plan (states .first) (states .past) m (now (work .entry)) slots (numbers (now (held .entry))) (numbers (now (held .exit))) ⌝ }
-    ensures { λ _. ⌜ length (now (below .exit)) ≡ length (now (below .entry)) ⌝ }
 {
     let block = plan.planes * (plan.across + MARGIN);
     let mut e = states.first;
     let mut at = (states.past - e) * block;
     while e < states.past {
         at -= block;
-        make_row(held, below, work, plan, e, m, further(slots, at));
+        make_row(held, work, plan, e, m, further(slots, at));
         e += 1;
     }
 }
 
 // States from the one before at `from`, the last of them at `to`, which may be the same place: a row is
-// read before its place is written. The keys stand at the beginning of the work buffer; what `held` and
-// `below` hold is free.
+// read before its place is written. The keys stand at the beginning of the work buffer; what `held` holds
+// is free.
 pub(crate) fn make_states(
     work: &mut [u16],
     held: &mut [u16],
-    below: &mut [u16],
     plan: Plan,
     states: Stretch,
     from: usize,
@@ -209,9 +185,9 @@ pub(crate) fn make_states(
     requires { ⌜ (Sound plan) × (states .first < states .past) × (states .past ≤ 65536) ⌝ }
     requires { ⌜ (keysSize plan ≤ from) × (keysSize plan ≤ to) × (from + stateSize plan ≤ length (now work)) × (to + stateSize plan ≤ length (now work)) ⌝ }
     requires { ⌜ ((from ≡ to) ⊎ ((from + stateSize plan ≤ to) ⊎ (to + stateSize plan ≤ from))) ⌝ }
-    requires { ⌜ (halfWith plan (furtherIn states) + halfWith plan (furtherIn states) ≤ length (now held)) × (length (now held) ≤ 40000) × (plan .across + 7 ≤ length (now below)) ⌝ }
+    requires { ⌜ (halfWith plan (furtherIn states) + halfWith plan (furtherIn states) ≤ length (now held)) × (length (now held) ≤ 40000) ⌝ }
     ensures { λ _. ⌜ Advanced plan (states .first) (states .past) (now (work .entry)) (now (work .exit)) from to ⌝ }
-    ensures { λ _. ⌜ (length (now (held .exit)) ≡ length (now (held .entry))) × (length (now (below .exit)) ≡ length (now (below .entry))) ⌝ }
+    ensures { λ _. ⌜ length (now (held .exit)) ≡ length (now (held .entry)) ⌝ }
 {
     let first = states.first;
     let e = states.past - 1;
@@ -225,9 +201,9 @@ pub(crate) fn make_states(
     while m < rows {
         hold_last(held, slots.now + last, work, from, plan, first, m);
         if first < e {
-            next_rows(held, below, work, plan, states, m, slots);
+            next_rows(held, work, plan, states, m, slots);
         } else {
-            make_row(held, below, work, plan, e, m, slots);
+            make_row(held, work, plan, e, m, slots);
         }
         let row = row_in(plan, e, m);
         store_row(work, at, held, slots.now, plan, row);
@@ -244,7 +220,6 @@ pub(crate) fn make_joined(
     best: &mut [u16],
     work: &[u16],
     held: &mut [u16],
-    below: &mut [u16],
     plan: Plan,
     states: Stretch,
     from: usize,
@@ -253,9 +228,9 @@ pub(crate) fn make_joined(
     requires { ⌜ (Sound plan) × (states .first < states .past) × (states .past ≤ 65536) ⌝ }
     requires { ⌜ (rowsIn plan (states .past - 1) ≡ plan .rows) × (keysSize plan ≤ length (now best)) ⌝ }
     requires { ⌜ (keysSize plan ≤ from) × (from + stateSize plan ≤ length (now work)) × (ends + stateSize plan ≤ length (now work)) ⌝ }
-    requires { ⌜ (halfWith plan (furtherIn states) + halfWith plan (furtherIn states) ≤ length (now held)) × (length (now held) ≤ 40000) × (plan .across + 7 ≤ length (now below)) ⌝ }
+    requires { ⌜ (halfWith plan (furtherIn states) + halfWith plan (furtherIn states) ≤ length (now held)) × (length (now held) ≤ 40000) ⌝ }
     ensures { λ _. ⌜ Joined plan (states .first) (states .past) (now (work .entry)) (now (best .entry)) (now (best .exit)) from ends ⌝ }
-    ensures { λ _. ⌜ (length (now (held .exit)) ≡ length (now (held .entry))) × (length (now (below .exit)) ≡ length (now (below .entry))) ⌝ }
+    ensures { λ _. ⌜ length (now (held .exit)) ≡ length (now (held .entry)) ⌝ }
     ensures { λ _. ⌜ length (now (best .exit)) ≡ length (now (best .entry)) ⌝ }
 {
     let first = states.first;
@@ -270,9 +245,9 @@ pub(crate) fn make_joined(
     while m < plan.rows {
         hold_last(held, slots.now + last, work, from, plan, first, m);
         if first < e {
-            next_rows(held, below, work, plan, states, m, slots);
+            next_rows(held, work, plan, states, m, slots);
         } else {
-            make_row(held, below, work, plan, e, m, slots);
+            make_row(held, work, plan, e, m, slots);
         }
         at -= size;
         let row = row_in(plan, e, m);

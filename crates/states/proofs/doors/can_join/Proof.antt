@@ -9,11 +9,11 @@ use Rattle.states.proofs.DoorTests.{Makes, make-facts, keys-few, joins-
 use Rattle.states.proofs.doors.can_join.Statement.{statement}
 use Rattle.states.proofs.doors.can_join.Tie as tie
 
-makes : (e : tie.Else1) → let a = e .before .before .args in canMake (a .plan) (a .states) (a .held) (a .below) ≡ true
+makes : (e : tie.Else1) → let a = e .before .before .args in canMake (a .plan) (a .states) (a .held) ≡ true
 makes e = sym (e .before .can-make .ensures) ∙ not-false _ (e .if1 .left)
 
-made : (e : tie.Else1) → let a = e .before .before .args in Makes (a .plan) (a .states) (a .held) (a .below)
-made e = make-facts _ _ _ _ (makes e)
+made : (e : tie.Else1) → let a = e .before .before .args in Makes (a .plan) (a .states) (a .held)
+made e = make-facts _ _ _ (makes e)
 
 source : (e : tie.Else3) → let a = e .before .before .before .before .before .before .before .before .args in stateFits (a .plan) (a .from) (a .work) ≡ true
 source e = sym (e .before .state-fits .ensures) ∙ not-false _ (e .if3 .left)
@@ -22,7 +22,7 @@ can-make-requires : tie.Need-can-make-requires
 can-make-requires c κs = search needs
 
 returns : tie.Need-returns
-returns c = joins-1 _ _ _ _ _ _ _ _ (sym (c .before .can-make .ensures) ∙ not-true _ (c .if1 .taken))
+returns c = joins-1 _ _ _ _ _ _ _ (sym (c .before .can-make .ensures) ∙ not-true _ (c .if1 .taken))
 
 sub-rows-in : tie.Need-sub-rows-in
 sub-rows-in c = omega (arith, made (c .before) .some)
@@ -31,14 +31,14 @@ rows-in-requires : tie.Need-rows-in-requires
 rows-in-requires c κs = search needs
 
 returns-2 : tie.Need-returns-2
-returns-2 c = joins-2 _ _ _ _ _ _ _ _ (makes (c .before .before .before .before)) _ (c .before .before .rows-in .ensures) (c .if2 .taken)
+returns-2 c = joins-2 _ _ _ _ _ _ _ (makes (c .before .before .before .before)) _ (c .before .before .rows-in .ensures) (c .if2 .taken)
 
 state-fits-requires : tie.Need-state-fits-requires
 state-fits-requires c κs = made (c .before .before .before .before) .form
 
 returns-3 : tie.Need-returns-3
 returns-3 c =
-    joins-3 _ _ _ _ _ _ _ _ (makes (c .before .before .before .before .before .before)) _ (c .before .before .before .before .rows-in .ensures) (c .before .before .if2 .left)
+    joins-3 _ _ _ _ _ _ _ (makes (c .before .before .before .before .before .before)) _ (c .before .before .before .before .rows-in .ensures) (c .before .before .if2 .left)
     (sym (c .before .state-fits .ensures) ∙ not-true _ (c .if3 .taken))
 
 state-fits-requires-2 : tie.Need-state-fits-requires-2
@@ -46,7 +46,7 @@ state-fits-requires-2 c κs = made (c .before .before .before .before .before .b
 
 returns-4 : tie.Need-returns-4
 returns-4 c =
-    joins-4 _ _ _ _ _ _ _ _ (makes (c .before .before .before .before .before .before .before .before)) _ (c .before .before .before .before .before .before .rows-in .ensures) (c .before .before .before .before .if2 .left) (source (c .before .before))
+    joins-4 _ _ _ _ _ _ _ (makes (c .before .before .before .before .before .before .before .before)) _ (c .before .before .before .before .before .before .rows-in .ensures) (c .before .before .before .before .if2 .left) (source (c .before .before))
     (sym (c .before .state-fits2 .ensures) ∙ not-true _ (c .if4 .taken))
 
 mul-result : tie.Need-mul-result
@@ -54,7 +54,7 @@ mul-result c = omega (arith, keys-few (c .before .before .before .before .before
 
 returns-5 : tie.Need-returns-5
 returns-5 c =
-    joins-5 _ _ _ _ _ _ _ _ (makes (c .before .before .before .before .before .before .before .before .before)) _ (c .before .before .before .before .before .before .before .rows-in .ensures) (c .before .before .before .before .before .if2 .left) (source (c .before .before .before))
+    joins-5 _ _ _ _ _ _ _ (makes (c .before .before .before .before .before .before .before .before .before)) _ (c .before .before .before .before .before .before .before .rows-in .ensures) (c .before .before .before .before .before .if2 .left) (source (c .before .before .before))
     (sym (c .before .before .state-fits2 .ensures) ∙ not-false _ (c .before .if4 .left))
 
 pub can-join-spec : {M : Type 1} → statement M

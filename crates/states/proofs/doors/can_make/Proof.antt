@@ -16,13 +16,13 @@ is-well-formed-requires : tie.Need-is-well-formed-requires
 is-well-formed-requires c κs = search needs
 
 returns : tie.Need-returns
-returns c = make-1 _ _ _ _ (sym (c .before .is-well-formed .ensures) ∙ not-true _ (c .if1 .taken))
+returns c = make-1 _ _ _ (sym (c .before .is-well-formed .ensures) ∙ not-true _ (c .if1 .taken))
 
 returns-2 : tie.Need-returns-2
-returns-2 c = make-2 _ _ _ _ (followed (c .before .before)) (c .if2 .taken)
+returns-2 c = make-2 _ _ _ (followed (c .before .before)) (c .if2 .taken)
 
 returns-3 : tie.Need-returns-3
-returns-3 c = make-3 _ _ _ _ (followed (c .before .before .before .before)) (c .before .before .if2 .left) (c .if3 .taken)
+returns-3 c = make-3 _ _ _ (followed (c .before .before .before .before)) (c .before .before .if2 .left) (c .if3 .taken)
 
 sub-held-fits : tie.Need-sub-held-fits
 sub-held-fits c = search needs
@@ -34,7 +34,7 @@ held-fits-requires : tie.Need-held-fits-requires
 held-fits-requires c κs = (followed (c .before .before .before .before .before .before), omega (arith, c .before .before .before .before .if2 .left, c .before .before .if3 .left))
 
 returns-4 : tie.Need-returns-4
-returns-4 c = c .held-fits .ensures ∙ make-4 _ _ _ _ (followed (c .before .before .before .before .before .before .before)) (c .before .before .before .before .before .if2 .left) (c .before .before .before .if3 .left)
+returns-4 c = c .held-fits .ensures ∙ make-4 _ _ _ (followed (c .before .before .before .before .before .before .before)) (c .before .before .before .before .before .if2 .left) (c .before .before .before .if3 .left)
 
 pub can-make-spec : {M : Type 1} → statement M
 can-make-spec =

@@ -1,7 +1,7 @@
 -- `held_fits` asks the questions of `heldFits` in their order.
 use native.Mathlib.Omega.{arith}
 use Rattle.plans.proofs.FormFacts.{formed}
-use Rattle.states.proofs.DoorTests.{held-1, held-2, held-3}
+use Rattle.states.proofs.DoorTests.{held-1, held-2}
 use Rattle.states.proofs.doors.held_fits.Statement.{statement}
 use Rattle.states.proofs.doors.held_fits.Tie as tie
 
@@ -12,16 +12,10 @@ add-if1 : tie.Need-add-if1
 add-if1 c = omega (arith, c .half-with .ensures)
 
 returns : tie.Need-returns
-returns c = held-1 _ _ _ _ _ (c .before .half-with .ensures .0) (c .if1 .taken)
+returns c = held-1 _ _ _ _ (c .before .half-with .ensures .0) (c .if1 .taken)
 
 returns-2 : tie.Need-returns-2
-returns-2 c = held-2 _ _ _ _ _ (c .before .before .half-with .ensures .0) (c .before .if1 .left) (c .if2 .taken)
-
-add-result : tie.Need-add-result
-add-result c = let s = c .before .before .before .before in omega (arith, formed (s .args .plan) (s .pre .0) .limits .few-across)
-
-returns-3 : tie.Need-returns-3
-returns-3 c = held-3 _ _ _ _ _ (c .before .before .before .half-with .ensures .0) (c .before .before .if1 .left) (c .before .if2 .left)
+returns-2 c = held-2 _ _ _ _ (c .before .half-with .ensures .0) (c .if1 .left)
 
 pub held-fits-spec : {M : Type 1} → statement M
-held-fits-spec = tie.close (tie.spec half-with-requires add-if1 returns returns-2 add-result returns-3)
+held-fits-spec = tie.close (tie.spec half-with-requires add-if1 returns returns-2)

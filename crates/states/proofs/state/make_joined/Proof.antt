@@ -20,17 +20,16 @@ use Rattle.states.proofs.state.make_joined.Statement.{statement}
 use Rattle.states.proofs.state.make_joined.Tie as tie
 
 abbrev Inv-loop : tie.InvT-loop
-Inv-loop best₀ work held₀ below₀ plan states from ends first e half last slots₀ size at₀ m₀ best held below slots at m =
+Inv-loop best₀ work held₀ plan states from ends first e half last slots₀ size at₀ m₀ best held slots at m =
     (m ≤ plan .rows)
     × (at ≡ ends + (plan .rows - m) * rowSize plan)
     × Halves plan (furtherIn states) slots (length held)
     × (length held ≡ length held₀)
-    × (length below ≡ length below₀)
     × Making plan (states .first) (states .past) m work from (numbers held) (slots .was)
     × Joining plan (states .first) (states .past) m work from ends best₀ best
 
 abbrev μ-loop : tie.MeasureT-loop
-μ-loop best₀ work held₀ below₀ plan states from ends first e half last slots₀ size at₀ m₀ best held below slots at m = plan .rows - m
+μ-loop best₀ work held₀ plan states from ends first e half last slots₀ size at₀ m₀ best held slots at m = plan .rows - m
 
 -- ---- what is known in a turn
 
@@ -39,7 +38,7 @@ abbrev head : tie.Then1 Inv-loop μ-loop → tie.At-loop Inv-loop μ-loop
 head t = t .before .before
 
 abbrev start : tie.Then1 Inv-loop μ-loop → tie.Start Inv-loop μ-loop
-start t = head t .before .before .before .before .before .before .before .before .before .before .before .before .before .before .before
+start t = head t .before .before .before .before .before .before .before .before .before .before .before .before .before .before
 
 row-left : (t : tie.Then1 Inv-loop μ-loop) → let a = start t .args in head t .loop .m < rowsIn (a .plan) (a .states .past - 1)
 row-left t = omega (arith, t .if1 .taken, start t .pre .1 .0 .0)
@@ -56,17 +55,14 @@ placed t = omega (arith, head t .loop .inv .1, one-back t)
 -- the rows of all states, or the one of a state by itself, beside that of the state before
 rows : (j : tie.Joined2 Inv-loop μ-loop) → let t = j .before .before .before .before .before .before in let a = start t .args in let l = head t .loop in
     NextRows (a .plan) (a .states .first) (a .states .past) (l .m) (a .work .now) (l .slots) (numbers (j .before .before .before .hold-last .last .0)) (numbers (j .if2 .held))
-    × (length (j .if2 .below) ≡ length (l .below))
 rows j =
     let t = j .before .before .before .before .before .before in
     let s = start t in
     ⊎-elim
-    (λ w. (rows-same _ _ _ _ _ _ _ _ _ (w .3 .ensures .0) (ap numbers (w .8)), ap length (w .9) ∙ w .3 .kept .1 .0))
+    (λ w. rows-same _ _ _ _ _ _ _ _ _ (w .2 .ensures) (ap numbers (w .5)))
     (λ w.
-    let alone = let q : s .args .states .past ≡ s .args .states .first + 1 = omega (arith, w .0 .left, s .pre .0) in q in (
-      rows-same _ _ _ _ _ _ _ _ _ (rows-one _ _ _ _ _ _ _ _ _ (s .pre .0 .0) alone (s .pre .0 .2) (row-left t) (head t .loop .inv .2) (w .3 .ensures .0)) (ap numbers (w .8)),
-      ap length (w .9) ∙ w .3 .kept .1 .0,
-    ))
+    let alone = let q : s .args .states .past ≡ s .args .states .first + 1 = omega (arith, w .0 .left, s .pre .0) in q in
+    rows-same _ _ _ _ _ _ _ _ _ (rows-one _ _ _ _ _ _ _ _ _ (s .pre .0 .0) alone (s .pre .0 .2) (row-left t) (head t .loop .inv .2) (w .2 .ensures)) (ap numbers (w .5)))
     (j .if2 .came)
 
 turned : (j : tie.Joined2 Inv-loop μ-loop) → let t = j .before .before .before .before .before .before in let a = start t .args in let l = head t .loop in
@@ -76,37 +72,37 @@ turned j =
     let s = start t in
     let b = j .before .before .before .hold-last .ensures in
     turn _ _ _ _ _ _ _ _ _ _ _ _ _ (s .pre .0 .0) (s .pre .0 .1) (s .pre .0 .2) (row-left t) (head t .loop .inv .2) (t .before .before .before .before .before .before .before .before .before .before .before .half-with .ensures .0) refl (b .0) (b .1)
-    (rows j .0)
+    (rows j)
 
 made : (j : tie.Joined2 Inv-loop μ-loop) → let t = j .before .before .before .before .before .before in let a = start t .args in let l = head t .loop in
     Making (a .plan) (a .states .first) (a .states .past) (suc (l .m)) (a .work .now) (a .from) (numbers (j .if2 .held)) (l .slots .now)
 made j =
     let t = j .before .before .before .before .before .before in
     let s = start t in
-    making-more _ _ _ _ _ _ _ _ _ _ (s .pre .0 .0) (s .pre .0 .1) (s .pre .0 .2) (kept-all _ _ _ _) (head t .loop .inv .5) (turned j)
+    making-more _ _ _ _ _ _ _ _ _ _ (s .pre .0 .0) (s .pre .0 .1) (s .pre .0 .2) (kept-all _ _ _ _) (head t .loop .inv .4) (turned j)
 
 -- ---- the needs
 
 sub-e : tie.Need-sub-e Inv-loop μ-loop
-sub-e c = omega (arith, c .before .before .before .before .before .pre .0 .1)
+sub-e c = omega (arith, c .before .before .before .before .pre .0 .1)
 
 sub-half-with : tie.Need-sub-half-with Inv-loop μ-loop
-sub-half-with c = omega (arith, c .before .before .before .before .before .pre .0 .1)
+sub-half-with c = omega (arith, c .before .before .before .before .pre .0 .1)
 
 half-with-requires : tie.Need-half-with-requires Inv-loop μ-loop
-half-with-requires c κs = let s = c .before .before .before .before .before in (s .pre .0 .0 .few-planes, s .pre .0 .0 .few-across, omega (arith, s .pre .0))
+half-with-requires c κs = let s = c .before .before .before .before in (s .pre .0 .0 .few-planes, s .pre .0 .0 .few-across, omega (arith, s .pre .0))
 
 add-last : tie.Need-add-last Inv-loop μ-loop
-add-last c = omega (arith, c .before .before .before .before .before .before .before .pre .0 .0 .few-across)
+add-last c = omega (arith, c .before .before .before .before .before .before .pre .0 .0 .few-across)
 
 mul-last : tie.Need-mul-last Inv-loop μ-loop
-mul-last c = let p = c .before .before .before .before .before .before .before .before .pre .0 .0 in omega (arith, block-small _ _ (p .few-planes) (p .few-across))
+mul-last c = let p = c .before .before .before .before .before .before .before .pre .0 .0 in omega (arith, block-small _ _ (p .few-planes) (p .few-across))
 
 sub-last : tie.Need-sub-last Inv-loop μ-loop
-sub-last c = omega (arith, half-room (c .before .before .before .before .before .before .before .before .args .plan), c .before .before .half-with .ensures)
+sub-last c = omega (arith, half-room (c .before .before .before .before .before .before .before .args .plan), c .before .before .half-with .ensures)
 
 fill-run-requires : tie.Need-fill-run-requires Inv-loop μ-loop
-fill-run-requires c κs = omega (arith, c .before .before .before .before .before .before .before .before .before .pre .1 .1 .1, c .before .before .before .half-with .ensures)
+fill-run-requires c κs = omega (arith, c .before .before .before .before .before .before .before .before .pre .1 .1 .1, c .before .before .before .half-with .ensures)
 
 -- a row, and all rows, end within the work buffer
 sizes : (s : tie.Start Inv-loop μ-loop) → let p = s .args .plan in
@@ -114,23 +110,22 @@ sizes : (s : tie.Start Inv-loop μ-loop) → let p = s .args .plan in
 sizes s = (row-small (s .args .plan .planes) (s .args .plan .across) (s .pre .0 .0 .few-planes) (s .pre .0 .0 .few-across), s .pre .1 .1 .0 .2)
 
 mul-size : tie.Need-mul-size Inv-loop μ-loop
-mul-size c = omega (arith, sizes (c .before .before .before .before .before .before .before .before .before .before .before .before .before))
+mul-size c = omega (arith, sizes (c .before .before .before .before .before .before .before .before .before .before .before .before))
 
 mul-at : tie.Need-mul-at Inv-loop μ-loop
-mul-at c = let s = c .before .before .before .before .before .before .before .before .before .before .before .before .before .before in omega (arith, sizes s, s .good .1 .0)
+mul-at c = let s = c .before .before .before .before .before .before .before .before .before .before .before .before .before in omega (arith, sizes s, s .good .1 .0)
 
 add-at : tie.Need-add-at Inv-loop μ-loop
-add-at c = let s = c .before .before .before .before .before .before .before .before .before .before .before .before .before .before in omega (arith, sizes s, s .good .1 .0)
+add-at c = let s = c .before .before .before .before .before .before .before .before .before .before .before .before .before in omega (arith, sizes s, s .good .1 .0)
 
 loop-holds : tie.Need-loop-holds Inv-loop μ-loop
 loop-holds c =
-    let s = c .before .before .before .before .before .before .before .before .before .before .before .before .before .before in
+    let s = c .before .before .before .before .before .before .before .before .before .before .before .before .before in
     let h = c .before .before .before .before .before .before .before .before .half-with .ensures in
     let f = c .before .before .before .before .fill-run in (
       omega arith,
       ap (λ (q : ℕ). s .args .ends + q * rowSize (s .args .plan)) (omega arith),
       halves-first _ _ _ _ _ refl (h .0) (s .pre .1 .1 .1 .0) (s .pre .1 .1 .1 .1) (f .kept .0),
-      refl,
       refl,
       making-none (s .args .plan) _ _ _ _ _ _ _
           (numbers-filled _ _ _ _ _ _ (f .ensures) (omega (arith, h .0, s .pre .1 .1 .1)) (turned-high 32768 (omega arith))) (omega (arith, h .0)),
@@ -159,25 +154,22 @@ hold-last-requires c κs =
 
 next-rows-requires : tie.Need-next-rows-requires Inv-loop μ-loop
 next-rows-requires c κs =
-    let t = c .before .before .before .before .before .before .before .before in
+    let t = c .before .before .before .before .before .before .before in
     let s = start t in
     let i = head t .loop .inv in
-    let b = c .before .before .before .before .before .hold-last .kept .0 in
-    (s .pre .0, ((row-left t, omega (arith, s .pre .1 .1 .0)), (halves-same _ _ _ _ _ (i .2) b, omega (arith, s .pre .1 .1 .1, i .4))))
+    let b = c .before .before .before .before .hold-last .kept .0 in
+    (s .pre .0, ((row-left t, omega (arith, s .pre .1 .1 .0)), halves-same _ _ _ _ _ (i .2) b))
 
 make-row-requires : tie.Need-make-row-requires Inv-loop μ-loop
 make-row-requires c κs =
-    let t = c .before .before .before .before .before .before .before .before in
+    let t = c .before .before .before .before .before .before .before in
     let s = start t in
     let i = head t .loop .inv in
-    let b = c .before .before .before .before .before .hold-last .kept .0 in (
+    let b = c .before .before .before .before .hold-last .kept .0 in (
       s .pre .0 .0,
       (
         (omega (arith, s .pre .0), row-left t, omega (arith, s .pre .1 .1 .0)),
-        (
-          slotted-at (s .args .plan) 0 _ _ _ _ (halves-same _ _ _ _ _ (i .2) b) (omega arith) (omega arith) (omega arith),
-          omega (arith, s .pre .1 .1 .1, i .4),
-        ),
+        slotted-at (s .args .plan) 0 _ _ _ _ (halves-same _ _ _ _ _ (i .2) b) (omega arith) (omega arith) (omega arith),
       ),
     )
 
@@ -205,7 +197,7 @@ join-row-requires c κs =
       row-fits p e (l .m) (r .result) (s .pre .0 .0) near (row-left t) (r .ensures .0) (r .ensures .1),
       omega (arith, half-room p, halves-room p 0 _ (l .slots) _ (l .inv .2) (omega arith), same-many _ _ (turned j .len)),
       omega (arith, l .inv .1, one-back t, room, s .pre .1 .1 .0),
-      omega (arith, keyed, s .pre .1 .0, l .inv .6 .len),
+      omega (arith, keyed, s .pre .1 .0, l .inv .5 .len),
     )
 
 swapped-requires : tie.Need-swapped-requires Inv-loop μ-loop
@@ -231,26 +223,22 @@ loop-again c =
       placed t,
       halves-swapped _ _ _ _ _ _ (i .2) (w .0) (w .1) len,
       len ∙ i .3,
-      rows j .1 ∙ i .4,
       making-swapped _ _ _ _ _ _ _ _ _ _ (made j) refl (w .0),
-      joining-more _ _ _ _ _ _ _ _ _ _ _ _ _ _ _ _ _ (s .pre .0 .1) (t .if1 .taken) refl (placed t) (r .2) (r .0) (r .1) (i .6) (made j)
+      joining-more _ _ _ _ _ _ _ _ _ _ _ _ _ _ _ _ _ (s .pre .0 .1) (t .if1 .taken) refl (placed t) (r .2) (r .0) (r .1) (i .5) (made j)
           (b .ensures) (b .kept .0),
     )
 
 same-length : tie.Need-same-length Inv-loop μ-loop
-same-length c = c .before .before .loop .inv .6 .len
+same-length c = c .before .before .loop .inv .5 .len
 
 same-length-2 : tie.Need-same-length-2 Inv-loop μ-loop
 same-length-2 c = omega (arith, c .before .before .loop .inv .3, c .before .before .before .before .before .before .before .fill-run .kept .0)
 
-same-length-3 : tie.Need-same-length-3 Inv-loop μ-loop
-same-length-3 c = c .before .before .loop .inv .4
-
 returns : tie.Need-returns Inv-loop μ-loop
 returns c =
     let i = c .before .before .loop .inv in (
-      joining-all _ _ _ _ _ _ _ _ _ (i .6) (omega (arith, i .0, c .if1 .left)),
-      ((omega (arith, i .3, c .before .before .before .before .before .before .before .fill-run .kept .0), i .4), i .6 .len),
+      joining-all _ _ _ _ _ _ _ _ _ (i .5) (omega (arith, i .0, c .if1 .left)),
+      (omega (arith, i .3, c .before .before .before .before .before .before .before .fill-run .kept .0), i .5 .len),
     )
 
 pub make-joined-spec : {M : Type 1} → statement M
@@ -283,5 +271,4 @@ make-joined-spec =
     loop-again
     same-length
     same-length-2
-    same-length-3
     returns)
