@@ -103,33 +103,33 @@ module _ (p : Plan) (s : Stack) (work marks : ℕ) where
   pub places-few : wellFormed p ≡ true → s .places ≤ 64 → s .places * stateSize p ≤ 64 * 9437184
   places-few w e = mul-le-mul {n₁ = s .places} {m₁ = stateSize p} {n₂ = 64} {m₂ = 9437184} e (state-few p w)
 
-module _ (p : Plan) (s : Stack) (want spare work marks held below : ℕ) where
-  pub fetches-1 : canHold p held below ≡ false → fetches p s want spare work marks held below ≡ false
+module _ (p : Plan) (s : Stack) (want spare work marks held : ℕ) where
+  pub fetches-1 : canHold p held ≡ false → fetches p s want spare work marks held ≡ false
   unfolding fetches
   fetches-1 a = rw a refl
 
-  pub fetches-2 : canHold p held below ≡ true → stackFits p s work marks ≡ false → fetches p s want spare work marks held below ≡ false
+  pub fetches-2 : canHold p held ≡ true → stackFits p s work marks ≡ false → fetches p s want spare work marks held ≡ false
   unfolding fetches
   fetches-2 a b = rw (a, b) refl
 
-  pub fetches-3 : canHold p held below ≡ true → stackFits p s work marks ≡ true → 1024 < want → fetches p s want spare work marks held below ≡ false
+  pub fetches-3 : canHold p held ≡ true → stackFits p s work marks ≡ true → 1024 < want → fetches p s want spare work marks held ≡ false
   unfolding fetches
   fetches-3 a b d = rw (a, b, lt-leb want 1024 d) refl
 
-  pub fetches-4 : canHold p held below ≡ true → stackFits p s work marks ≡ true → want ≤ 1024 → 1024 < spare →
-      fetches p s want spare work marks held below ≡ false
+  pub fetches-4 : canHold p held ≡ true → stackFits p s work marks ≡ true → want ≤ 1024 → 1024 < spare →
+      fetches p s want spare work marks held ≡ false
   unfolding fetches
   fetches-4 a b d e = rw (a, b, le-leb want 1024 d, lt-leb spare 1024 e) refl
 
-  pub fetches-5 : canHold p held below ≡ true → stackFits p s work marks ≡ true → want ≤ 1024 → spare ≤ 1024 →
-      fetches p s want spare work marks held below ≡ true
+  pub fetches-5 : canHold p held ≡ true → stackFits p s work marks ≡ true → want ≤ 1024 → spare ≤ 1024 →
+      fetches p s want spare work marks held ≡ true
   unfolding fetches
   fetches-5 a b d e = rw (a, b, le-leb want 1024 d, le-leb spare 1024 e) refl
 
   -- a stack that has room, of a plan that can be followed, is fetched
-  pub fetches-if : wellFormed p ≡ true → halfOf p + halfOf p ≤ held → held ≤ 40000 → p .across + 7 ≤ below → StackFits p s work marks → want ≤ 1024 →
-      spare ≤ 1024 → fetches p s want spare work marks held below ≡ true
-  fetches-if w a b d f l k = fetches-5 (hold-if p held below w a b d) (stack-if p s work marks f) l k
+  pub fetches-if : wellFormed p ≡ true → halfOf p + halfOf p ≤ held → held ≤ 40000 → StackFits p s work marks → want ≤ 1024 →
+      spare ≤ 1024 → fetches p s want spare work marks held ≡ true
+  fetches-if w a b f l k = fetches-5 (hold-if p held w a b) (stack-if p s work marks f) l k
 
 -- ---- its top
 

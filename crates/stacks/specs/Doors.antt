@@ -19,8 +19,8 @@ stackFits p s work marks =
     && leb (s .base + s .places * stateSize p) work
     && leb (s .places) marks
 
-unfoldable pub fetches : Plan → Stack → (want spare work marks held below : ℕ) → Bool
-fetches p s want spare work marks held below = canHold p held below && stackFits p s work marks && leb want 1024 && leb spare 1024
+unfoldable pub fetches : Plan → Stack → (want spare work marks held : ℕ) → Bool
+fetches p s want spare work marks held = canHold p held && stackFits p s work marks && leb want 1024 && leb spare 1024
 
 -- where the last state of a stack begins, where the stack does if it is empty; 0 where it is none
 unfoldable pub hasTop : Plan → Stack → Bool
@@ -34,5 +34,5 @@ abbrev pub linkedAtOnce : Plan → (held : ℕ) → ℕ
 linkedAtOnce p held = cond (p .linked) (min (held / 2 / blockOf p - 1) 6) 1
 
 -- one where the plan cannot be followed with what is lent
-unfoldable pub atOnce : Plan → (held below : ℕ) → ℕ
-atOnce p held below = cond (canHold p held below) (linkedAtOnce p held) 1
+unfoldable pub atOnce : Plan → ℕ → ℕ
+atOnce p held = cond (canHold p held) (linkedAtOnce p held) 1

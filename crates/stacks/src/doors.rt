@@ -46,16 +46,15 @@ pub fn fetch(
     work: &mut [u16],
     marks: &mut [usize],
     held: &mut [u16],
-    below: &mut [u16],
     plan: Plan,
     stack: Stack,
     want: usize,
     spare: usize,
 ) -> Stack
-    ensures { λ r. ⌜ either (fetches plan stack want spare (length (now (work .entry))) (length (now (marks .entry))) (length (now (held .entry))) (length (now (below .entry)))) (((r .base ≡ stack .base) × (r .places ≡ stack .places) × (r .depth ≤ stack .places)) × Fetched plan stack (r .depth) want spare (now (work .entry)) (now (marks .entry)) (now (work .exit)) (now (marks .exit))) ((r ≡ stack) × (now (work .exit) ≡ now (work .entry)) × (now (marks .exit) ≡ now (marks .entry))) ⌝ }
-    ensures { λ _. ⌜ (length (now (held .exit)) ≡ length (now (held .entry))) × (length (now (below .exit)) ≡ length (now (below .entry))) ⌝ }
+    ensures { λ r. ⌜ either (fetches plan stack want spare (length (now (work .entry))) (length (now (marks .entry))) (length (now (held .entry)))) (((r .base ≡ stack .base) × (r .places ≡ stack .places) × (r .depth ≤ stack .places)) × Fetched plan stack (r .depth) want spare (now (work .entry)) (now (marks .entry)) (now (work .exit)) (now (marks .exit))) ((r ≡ stack) × (now (work .exit) ≡ now (work .entry)) × (now (marks .exit) ≡ now (marks .entry))) ⌝ }
+    ensures { λ _. ⌜ length (now (held .exit)) ≡ length (now (held .entry)) ⌝ }
 {
-    if !states::can_hold(plan, held.len(), below.len()) {
+    if !states::can_hold(plan, held.len()) {
         return stack;
     }
     if !stack_fits(plan, stack, work.len(), marks.len()) {
@@ -67,7 +66,7 @@ pub fn fetch(
     if spare > 1024 {
         return stack;
     }
-    stack::fetch(work, marks, held, below, plan, stack, want, spare)
+    stack::fetch(work, marks, held, plan, stack, want, spare)
 }
 
 // Where the last state of a stack begins; where the stack does, if it is empty; 0 where it is none.
@@ -88,12 +87,12 @@ pub fn top_of(plan: Plan, stack: Stack) -> usize
 
 // How many states are made at once with so many held numbers, up to six; one, where the plan cannot be
 // followed with them.
-pub fn at_once(plan: Plan, held: usize, below: usize) -> usize
-    ensures { λ r. ⌜ r ≡ atOnce plan held below ⌝ }
+pub fn at_once(plan: Plan, held: usize) -> usize
+    ensures { λ r. ⌜ r ≡ atOnce plan held ⌝ }
     ensures { λ r. ⌜ (1 ≤ r) × (r ≤ 6) ⌝ }
-    ensures { λ r. ⌜ either (canHold plan held below) (halfWith plan (r - 1) + halfWith plan (r - 1) ≤ held) (r ≡ 1) ⌝ }
+    ensures { λ r. ⌜ either (canHold plan held) (halfWith plan (r - 1) + halfWith plan (r - 1) ≤ held) (r ≡ 1) ⌝ }
 {
-    if !states::can_hold(plan, held, below) {
+    if !states::can_hold(plan, held) {
         return 1;
     }
     stack::at_once(plan, held)

@@ -151,7 +151,6 @@ pub(crate) fn at_once(plan: Plan, held: usize) -> usize
 fn run_on(
     work: &mut [u16],
     held: &mut [u16],
-    below: &mut [u16],
     plan: Plan,
     first: usize,
     past: usize,
@@ -161,9 +160,9 @@ fn run_on(
     requires { ⌜ wellFormed plan ≡ true ⌝ }
     requires { ⌜ (first < past) × (past ≤ 1024) × (keysSize plan ≤ from) × (to + stateSize plan ≤ length (now work)) ⌝ }
     requires { ⌜ ((from ≡ to) ⊎ (from + stateSize plan ≤ to)) ⌝ }
-    requires { ⌜ (halfOf plan + halfOf plan ≤ length (now held)) × (length (now held) ≤ 40000) × (plan .across + 7 ≤ length (now below)) ⌝ }
+    requires { ⌜ (halfOf plan + halfOf plan ≤ length (now held)) × (length (now held) ≤ 40000) ⌝ }
     ensures { λ _. ⌜ RunOn plan first past (now (work .entry)) (now (work .exit)) from to ⌝ }
-    ensures { λ _. ⌜ (length (now (held .exit)) ≡ length (now (held .entry))) × (length (now (below .exit)) ≡ length (now (below .entry))) ⌝ }
+    ensures { λ _. ⌜ length (now (held .exit)) ≡ length (now (held .entry)) ⌝ }
 {
     let count = at_once(plan, held.len());
     let mut e = lesser(first + count, past);
@@ -171,13 +170,13 @@ fn run_on(
         first: first,
         past: e,
     };
-    advance(work, held, below, plan, start, from, to);
+    advance(work, held, plan, start, from, to);
     while e < past {
         let next = Stretch {
             first: e,
             past: lesser(e + count, past),
         };
-        advance(work, held, below, plan, next, to, to);
+        advance(work, held, plan, next, to, to);
         e = next.past;
     }
 }
@@ -198,7 +197,6 @@ fn push(
     work: &mut [u16],
     marks: &mut [usize],
     held: &mut [u16],
-    below: &mut [u16],
     plan: Plan,
     stack: Stack,
     past: usize,
@@ -206,15 +204,15 @@ fn push(
     requires { ⌜ wellFormed plan ≡ true ⌝ }
     requires { ⌜ (StackFits plan stack (length (now work)) (length (now marks))) × (stack .depth < stack .places) × (past ≤ 1024) ⌝ }
     requires { ⌜ lastMark (now marks) (stack .depth) < past ⌝ }
-    requires { ⌜ (halfOf plan + halfOf plan ≤ length (now held)) × (length (now held) ≤ 40000) × (plan .across + 7 ≤ length (now below)) ⌝ }
+    requires { ⌜ (halfOf plan + halfOf plan ≤ length (now held)) × (length (now held) ≤ 40000) ⌝ }
     ensures { λ _. ⌜ Pushed plan (stack .base) (stack .depth) past (now (work .entry)) (now (marks .entry)) (now (work .exit)) (now (marks .exit)) ⌝ }
     ensures { λ _. ⌜ lastMark (now (marks .exit)) (stack .depth + 1) ≡ past ⌝ }
-    ensures { λ _. ⌜ (length (now (held .exit)) ≡ length (now (held .entry))) × (length (now (below .exit)) ≡ length (now (below .entry))) ⌝ }
+    ensures { λ _. ⌜ length (now (held .exit)) ≡ length (now (held .entry)) ⌝ }
 {
     let first = last_mark(marks, stack.depth);
     let to = stack.base + stack.depth * (plan.rows * (plan.planes * plan.across));
     let from = top_of(plan, stack);
-    run_on(work, held, below, plan, first, past, from, to);
+    run_on(work, held, plan, first, past, from, to);
     let depth = stack.depth;
     marks[depth] = past;
 }
@@ -224,7 +222,6 @@ pub(crate) fn fetch(
     work: &mut [u16],
     marks: &mut [usize],
     held: &mut [u16],
-    below: &mut [u16],
     plan: Plan,
     stack: Stack,
     want: usize,
@@ -232,10 +229,10 @@ pub(crate) fn fetch(
 ) -> Stack
     requires { ⌜ wellFormed plan ≡ true ⌝ }
     requires { ⌜ (StackFits plan stack (length (now work)) (length (now marks))) × (want ≤ 1024) × (spare ≤ 1024) ⌝ }
-    requires { ⌜ (halfOf plan + halfOf plan ≤ length (now held)) × (length (now held) ≤ 40000) × (plan .across + 7 ≤ length (now below)) ⌝ }
+    requires { ⌜ (halfOf plan + halfOf plan ≤ length (now held)) × (length (now held) ≤ 40000) ⌝ }
     ensures { λ r. ⌜ (r .base ≡ stack .base) × (r .places ≡ stack .places) × (r .depth ≤ stack .places) ⌝ }
     ensures { λ r. ⌜ Fetched plan stack (r .depth) want spare (now (work .entry)) (now (marks .entry)) (now (work .exit)) (now (marks .exit)) ⌝ }
-    ensures { λ _. ⌜ (length (now (held .exit)) ≡ length (now (held .entry))) × (length (now (below .exit)) ≡ length (now (below .entry))) ⌝ }
+    ensures { λ _. ⌜ length (now (held .exit)) ≡ length (now (held .entry)) ⌝ }
 {
     let places = stack.places;
     let mut depth = drop_later(marks, places, stack.depth, want, spare);
@@ -247,7 +244,7 @@ pub(crate) fn fetch(
             places: places,
             depth: depth,
         };
-        push(work, marks, held, below, plan, so_far, next);
+        push(work, marks, held, plan, so_far, next);
         depth += 1;
         made = next;
         next = next_mark(places - depth, made, want, spare);

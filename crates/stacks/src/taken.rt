@@ -14,7 +14,6 @@ use states::Stretch;
 pub(crate) fn advance(
     work: &mut [u16],
     held: &mut [u16],
-    below: &mut [u16],
     plan: Plan,
     states: Stretch,
     from: usize,
@@ -23,9 +22,9 @@ pub(crate) fn advance(
     requires { ⌜ wellFormed plan ≡ true ⌝ }
     requires { ⌜ (states .first < states .past) × (states .past ≤ 65536) × (keysSize plan ≤ from) × (keysSize plan ≤ to) × (from + stateSize plan ≤ length (now work)) × (to + stateSize plan ≤ length (now work)) ⌝ }
     requires { ⌜ ((from ≡ to) ⊎ ((from + stateSize plan ≤ to) ⊎ (to + stateSize plan ≤ from))) ⌝ }
-    requires { ⌜ (halfWith plan (furtherIn states) + halfWith plan (furtherIn states) ≤ length (now held)) × (length (now held) ≤ 40000) × (plan .across + 7 ≤ length (now below)) ⌝ }
+    requires { ⌜ (halfWith plan (furtherIn states) + halfWith plan (furtherIn states) ≤ length (now held)) × (length (now held) ≤ 40000) ⌝ }
     ensures { λ _. ⌜ Advanced plan (states .first) (states .past) (now (work .entry)) (now (work .exit)) from to ⌝ }
-    ensures { λ _. ⌜ (length (now (held .exit)) ≡ length (now (held .entry))) × (length (now (below .exit)) ≡ length (now (below .entry))) ⌝ }
+    ensures { λ _. ⌜ length (now (held .exit)) ≡ length (now (held .entry)) ⌝ }
 {
-    states::advance(work, held, below, plan, states, from, to);
+    states::advance(work, held, plan, states, from, to);
 }

@@ -10,7 +10,7 @@ use Rattle.states.proofs.DoorTests.{hold-facts}
 use Rattle.stacks.proofs.doors.at_once.Statement.{statement}
 use Rattle.stacks.proofs.doors.at_once.Tie as tie
 
-holds : (e : tie.Else1) → let a = e .before .before .args in canHold (a .plan) (a .held) (a .below) ≡ true
+holds : (e : tie.Else1) → let a = e .before .before .args in canHold (a .plan) (a .held) ≡ true
 holds e = sym (e .before .can-hold .ensures) ∙ not-false _ (e .if1 .left)
 
 can-hold-requires : tie.Need-can-hold-requires
@@ -20,11 +20,11 @@ returns : tie.Need-returns
 unfolding atOnce
 returns c =
     let a = c .before .before .args in
-    let none : canHold (a .plan) (a .held) (a .below) ≡ false = sym (c .before .can-hold .ensures) ∙ not-true _ (c .if1 .taken) in
+    let none : canHold (a .plan) (a .held) ≡ false = sym (c .before .can-hold .ensures) ∙ not-true _ (c .if1 .taken) in
     (rw none refl, ((omega arith, omega arith), rw none refl))
 
 at-once-requires : tie.Need-at-once-requires
-at-once-requires c κs = let h = hold-facts _ _ _ (holds c) in (h .0, h .1)
+at-once-requires c κs = let h = hold-facts _ _ (holds c) in (h .0, h .1)
 
 returns-2 : tie.Need-returns-2
 unfolding atOnce

@@ -12,7 +12,7 @@ use Rattle.stacks.proofs.stack.fetch.Statement.{statement}
 use Rattle.stacks.proofs.stack.fetch.Tie as tie
 
 abbrev Inv-loop : tie.InvT-loop
-Inv-loop work₀ marks₀ held₀ below₀ plan stack want spare places depth₀ made₀ next₀ work marks held below depth made next =
+Inv-loop work₀ marks₀ held₀ plan stack want spare places depth₀ made₀ next₀ work marks held depth made next =
     (depth ≤ stack .places)
     × (made ≡ lastMark marks depth)
     × ((made ≤ next) × (next ≤ want))
@@ -21,25 +21,24 @@ Inv-loop work₀ marks₀ held₀ below₀ plan stack want spare places depth₀
     × (made < next → stack .places - depth ≡ 1 → want ≤ next + spare)
     × Fetching plan stack depth want work₀ marks₀ work marks
     × (length held ≡ length held₀)
-    × (length below ≡ length below₀)
 
 abbrev μ-loop : tie.MeasureT-loop
-μ-loop work₀ marks₀ held₀ below₀ plan stack want spare places depth₀ made₀ next₀ work marks held below depth made next = stack .places - depth
+μ-loop work₀ marks₀ held₀ plan stack want spare places depth₀ made₀ next₀ work marks held depth made next = stack .places - depth
 
 drop-later-requires : tie.Need-drop-later-requires Inv-loop μ-loop
 drop-later-requires c κs =
-    let s = c .before .before .before .before .before in
+    let s = c .before .before .before .before in
     let f = s .pre .1 .0 .0 in (f .some, f .deep, omega (arith, f .deep, f .in-marks), s .pre .1 .0 .2)
 
 last-mark-requires : tie.Need-last-mark-requires Inv-loop μ-loop
 last-mark-requires c κs = search needs
 
 sub-next-mark : tie.Need-sub-next-mark Inv-loop μ-loop
-sub-next-mark c = omega (arith, c .before .before .before .before .before .before .before .before .pre .1 .0 .0 .deep, c .before .before .drop-later .ensures)
+sub-next-mark c = omega (arith, c .before .before .before .before .before .before .before .pre .1 .0 .0 .deep, c .before .before .drop-later .ensures)
 
 next-mark-requires : tie.Need-next-mark-requires Inv-loop μ-loop
 next-mark-requires c κs =
-    let s = c .before .before .before .before .before .before .before .before in
+    let s = c .before .before .before .before .before .before .before in
     let f = s .pre .1 .0 .0 in
     let d = c .before .before .drop-later .ensures in
     let m = c .last-mark .ensures in (
@@ -52,7 +51,7 @@ next-mark-requires c κs =
 
 loop-holds : tie.Need-loop-holds Inv-loop μ-loop
 loop-holds c =
-    let s = c .before .before .before .before .before .before .before .before .before in
+    let s = c .before .before .before .before .before .before .before .before in
     let a = s .args in
     let d = c .before .before .before .drop-later .ensures in
     let n = c .next-mark .ensures in (
@@ -64,16 +63,15 @@ loop-holds c =
       n .4,
       fetch-none (a .plan) (well-formed-sound _ (s .pre .0)) (a .stack) _ (a .want) _ _ (d .0),
       refl,
-      refl,
     )
 
 push-requires : tie.Need-push-requires Inv-loop μ-loop
 push-requires c κs =
-    let s = c .before .before .before .before .before .before .before .before .before .before .before .before .before .before .before in
+    let s = c .before .before .before .before .before .before .before .before .before .before .before .before .before in
     let f = s .pre .1 .0 .0 in
-    let l = c .before .before .before .before .before .loop in
+    let l = c .before .before .before .before .loop in
     let i = l .inv in
-    let taken = c .before .before .before .before .loop-test .taken in (
+    let taken = c .before .before .before .loop-test .taken in (
       s .pre .0,
       (
         (
@@ -94,23 +92,22 @@ push-requires c κs =
           (
             omega (arith, s .pre .1 .1 .0, i .7),
             omega (arith, s .pre .1 .1 .1, i .7),
-            omega (arith, s .pre .1 .1 .2, i .8),
           ),
         ),
       ),
     )
 
 add-depth : tie.Need-add-depth Inv-loop μ-loop
-add-depth c = omega (arith, c .before .before .before .before .before .before .before .before .before .before .before .before .before .before .loop .inv .0, c .before .before .before .before .before .before .before .before .before .before .before .before .before .before .before .before .before .before .before .before .before .before .before .before .pre .1 .0 .0 .few)
+add-depth c = omega (arith, c .before .before .before .before .before .before .before .before .before .before .before .loop .inv .0, c .before .before .before .before .before .before .before .before .before .before .before .before .before .before .before .before .before .before .before .before .pre .1 .0 .0 .few)
 
 sub-next-mark-2 : tie.Need-sub-next-mark-2 Inv-loop μ-loop
-sub-next-mark-2 c = omega (arith, c .before .before .before .before .before .before .before .before .before .before .before .before .before .before .loop .inv .4 (c .before .before .before .before .before .before .before .before .before .before .before .before .before .loop-test .taken))
+sub-next-mark-2 c = omega (arith, c .before .before .before .before .before .before .before .before .before .before .before .loop .inv .4 (c .before .before .before .before .before .before .before .before .before .before .loop-test .taken))
 
 next-mark-requires-2 : tie.Need-next-mark-requires-2 Inv-loop μ-loop
 next-mark-requires-2 c κs =
-    let s = c .before .before .before .before .before .before .before .before .before .before .before .before .before .before .before .before .before .before .before .before .before .before .before .before in
-    let i = c .before .before .before .before .before .before .before .before .before .before .before .before .before .before .loop .inv in
-    let taken = c .before .before .before .before .before .before .before .before .before .before .before .before .before .loop-test .taken in (
+    let s = c .before .before .before .before .before .before .before .before .before .before .before .before .before .before .before .before .before .before .before .before in
+    let i = c .before .before .before .before .before .before .before .before .before .before .before .loop .inv in
+    let taken = c .before .before .before .before .before .before .before .before .before .before .loop-test .taken in (
       omega (arith, s .pre .1 .0 .0 .few),
       i .2 .1,
       s .pre .1 .0 .1,
@@ -119,16 +116,16 @@ next-mark-requires-2 c κs =
     )
 
 loop-less : tie.Need-loop-less Inv-loop μ-loop
-loop-less c = omega (arith, c .before .before .before .before .before .before .before .before .before .before .before .before .before .before .before .loop .inv .4 (c .before .before .before .before .before .before .before .before .before .before .before .before .before .before .loop-test .taken))
+loop-less c = omega (arith, c .before .before .before .before .before .before .before .before .before .before .before .before .loop .inv .4 (c .before .before .before .before .before .before .before .before .before .before .before .loop-test .taken))
 
 loop-again : tie.Need-loop-again Inv-loop μ-loop
 loop-again c =
-    let s = c .before .before .before .before .before .before .before .before .before .before .before .before .before .before .before .before .before .before .before .before .before .before .before .before .before in
+    let s = c .before .before .before .before .before .before .before .before .before .before .before .before .before .before .before .before .before .before .before .before .before in
     let a = s .args in
-    let l = c .before .before .before .before .before .before .before .before .before .before .before .before .before .before .before .loop in
+    let l = c .before .before .before .before .before .before .before .before .before .before .before .before .loop in
     let i = l .inv in
-    let left = i .4 (c .before .before .before .before .before .before .before .before .before .before .before .before .before .before .loop-test .taken) in
-    let v = c .before .before .before .before .before .before .before .before .before .push in
+    let left = i .4 (c .before .before .before .before .before .before .before .before .before .before .before .loop-test .taken) in
+    let v = c .before .before .before .before .before .before .before .push in
     let n = c .next-mark2 .ensures in (
       omega (arith, left),
       sym (v .ensures .1 .0),
@@ -138,8 +135,7 @@ loop-again c =
       n .4,
       fetch-more (a .plan) (well-formed-sound _ (s .pre .0)) (a .stack) (l .depth) (a .want) (l .next) (a .work .now) (a .marks .now) (l .work) (l .marks) _ _ (omega (arith, left))
           (i .2 .1) (s .pre .1 .0 .0 .past-keys) (i .6) (v .ensures .0),
-      v .ensures .1 .1 .0 ∙ i .7,
-      v .ensures .1 .1 .1 ∙ i .8,
+      v .ensures .1 .1 ∙ i .7,
     )
 
 same-length : tie.Need-same-length Inv-loop μ-loop
@@ -151,12 +147,9 @@ same-length-2 c = c .before .loop .inv .6 .len
 same-length-3 : tie.Need-same-length-3 Inv-loop μ-loop
 same-length-3 c = c .before .loop .inv .7
 
-same-length-4 : tie.Need-same-length-4 Inv-loop μ-loop
-same-length-4 c = c .before .loop .inv .8
-
 returns : tie.Need-returns Inv-loop μ-loop
 returns c =
-    let s = c .before .before .before .before .before .before .before .before .before .before .before in
+    let s = c .before .before .before .before .before .before .before .before .before .before in
     let a = s .args in
     let l = c .before .loop in
     let i = l .inv in
@@ -165,7 +158,7 @@ returns c =
       (
         fetched (a .plan) (well-formed-sound _ (s .pre .0)) (a .stack) (l .depth) (a .want) (a .spare) (a .work .now) (a .marks .now) (l .work) (l .marks) (i .6)
             (omega (arith, i .1, i .2)) (omega (arith, i .1, near)),
-        (i .7, i .8),
+        i .7,
       ),
     )
 
@@ -189,5 +182,4 @@ fetch-spec =
     same-length
     same-length-2
     same-length-3
-    same-length-4
     returns)
