@@ -68,30 +68,30 @@ module _ (p : Plan) where
 -- ---- a sweep
 
 module _ (p : Plan) (reach : Reach) (work best : ℕ) where
-  pub sweeps-1 : canHold p 24480 1032 ≡ false → false ≡ sweepable p reach work best
+  pub sweeps-1 : canHold p 24480 ≡ false → false ≡ sweepable p reach work best
   unfolding sweepable
   sweeps-1 a = rw a refl
 
-  pub sweeps-2 : canHold p 24480 1032 ≡ true → wellFormed (otherEnd p reach) ≡ false → false ≡ sweepable p reach work best
+  pub sweeps-2 : canHold p 24480 ≡ true → wellFormed (otherEnd p reach) ≡ false → false ≡ sweepable p reach work best
   unfolding sweepable
   sweeps-2 a b = rw (a, b) refl
 
-  pub sweeps-3 : canHold p 24480 1032 ≡ true → wellFormed (otherEnd p reach) ≡ true → (n : ℕ) → n ≡ statesOf p → 1024 < n →
+  pub sweeps-3 : canHold p 24480 ≡ true → wellFormed (otherEnd p reach) ≡ true → (n : ℕ) → n ≡ statesOf p → 1024 < n →
       false ≡ sweepable p reach work best
   unfolding sweepable
   sweeps-3 a b n e d = rw (a, b, sym e, lt-leb n 1024 d) refl
 
-  pub sweeps-4 : canHold p 24480 1032 ≡ true → wellFormed (otherEnd p reach) ≡ true → (n : ℕ) → n ≡ statesOf p → n ≤ 1024 →
+  pub sweeps-4 : canHold p 24480 ≡ true → wellFormed (otherEnd p reach) ≡ true → (n : ℕ) → n ≡ statesOf p → n ≤ 1024 →
       (m : ℕ) → m ≡ roomFor p → work < m → false ≡ sweepable p reach work best
   unfolding sweepable
   sweeps-4 a b n e d m f g = rw (a, b, sym e, le-leb n 1024 d, sym f, lt-leb m work g) refl
 
-  pub sweeps-5 : canHold p 24480 1032 ≡ true → wellFormed (otherEnd p reach) ≡ true → (n : ℕ) → n ≡ statesOf p → n ≤ 1024 →
+  pub sweeps-5 : canHold p 24480 ≡ true → wellFormed (otherEnd p reach) ≡ true → (n : ℕ) → n ≡ statesOf p → n ≤ 1024 →
       (m : ℕ) → m ≡ roomFor p → m ≤ work → best < keysSize p → false ≡ sweepable p reach work best
   unfolding sweepable
   sweeps-5 a b n e d m f g h = rw (a, b, sym e, le-leb n 1024 d, sym f, le-leb m work g, lt-leb (keysSize p) best h) refl
 
-  pub sweeps-6 : canHold p 24480 1032 ≡ true → wellFormed (otherEnd p reach) ≡ true → (n : ℕ) → n ≡ statesOf p → n ≤ 1024 →
+  pub sweeps-6 : canHold p 24480 ≡ true → wellFormed (otherEnd p reach) ≡ true → (n : ℕ) → n ≡ statesOf p → n ≤ 1024 →
       (m : ℕ) → m ≡ roomFor p → m ≤ work → keysSize p ≤ best → true ≡ sweepable p reach work best
   unfolding sweepable
   sweeps-6 a b n e d m f g h = rw (a, b, sym e, le-leb n 1024 d, sym f, le-leb m work g, le-leb (keysSize p) best h) refl
@@ -102,5 +102,5 @@ module _ (p : Plan) (reach : Reach) (work best : ℕ) where
   sweeps-if w h o s r b =
       sym
       (sweeps-6
-      (hold-if p 24480 1032 w h (omega arith) (omega (arith, formed p w .limits .few-across)))
+      (hold-if p 24480 w h (omega arith))
       o (statesOf p) refl s (roomFor p) refl r b)

@@ -49,4 +49,4 @@ roomFor p = keysSize p + cond (p .linked) 2 1 * stateSize p
 -- both plans can be followed with what a sweep holds, and work and best have so many numbers as they ask for
 unfoldable pub sweepable : Plan → Reach → (work best : ℕ) → Bool
 sweepable p reach work best =
-    canHold p 24480 1032 && wellFormed (otherEnd p reach) && leb (statesOf p) 1024 && leb (roomFor p) work && leb (keysSize p) best
+    canHold p 24480 && wellFormed (otherEnd p reach) && leb (statesOf p) 1024 && leb (roomFor p) work && leb (keysSize p) best

@@ -93,7 +93,7 @@ pub fn sweep(best: &mut [u16], work: &mut [u16], plan: Plan, reach: Reach) -> bo
     ensures { λ r. ⌜ r ≡ sweepable plan reach (length (now (work .entry))) (length (now (best .entry))) ⌝ }
     ensures { λ r. ⌜ either r (Swept plan (otherEnd plan reach) (statesOf plan) (now (work .entry)) (now (best .entry)) (now (best .exit))) ((now (best .exit) ≡ now (best .entry)) × (now (work .exit) ≡ now (work .entry))) ⌝ }
 {
-    if !states::can_hold(plan, 24480, 1032) {
+    if !states::can_hold(plan, 24480) {
         return false;
     }
     let other = other_end(plan, reach);

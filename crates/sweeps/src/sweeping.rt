@@ -14,9 +14,8 @@ use plans::Plan;
 use stacks::Stack;
 use states::Stretch;
 
-// So many numbers lie before the held rows, and one more before what is kept of a plane. Any number up to 7 is
-// right; it is chosen so that in the built library pixel 0 of a row, which has a zero before it, begins a vector
-// of eight, and what is kept too.
+// So many numbers lie before the held rows. Any number up to 7 is right; it is chosen so that in the built
+// library pixel 0 of a row, which has a zero before it, begins a vector of eight.
 const LEAD: usize = 3;
 
 // How many states find room, but for one, up to 64.
@@ -36,7 +35,6 @@ fn sweep_apart(
     best: &mut [u16],
     work: &mut [u16],
     held: &mut [u16],
-    below: &mut [u16],
     plan: Plan,
     other: Plan,
     states: usize,
@@ -44,7 +42,7 @@ fn sweep_apart(
     requires { ⌜ (wellFormed plan ≡ true) × (wellFormed other ≡ true) ⌝ }
     requires { ⌜ (Opposite plan other states) × (plan .linked ≡ false) ⌝ }
     requires { ⌜ (keysSize plan + stateSize plan ≤ length (now work)) × (keysSize plan ≤ length (now best)) ⌝ }
-    requires { ⌜ (halfOf plan + halfOf plan ≤ length (now held)) × (length (now held) ≤ 40000) × (plan .across + 7 ≤ length (now below)) ⌝ }
+    requires { ⌜ (halfOf plan + halfOf plan ≤ length (now held)) × (length (now held) ≤ 40000) ⌝ }
     ensures { λ _. ⌜ Swept plan other states (now (work .entry)) (now (best .entry)) (now (best .exit)) ⌝ }
 {
     let base = plan.lines * plan.across;
@@ -54,13 +52,13 @@ fn sweep_apart(
             first: e,
             past: e + 1,
         };
-        advance(work, held, below, other, theirs, base, base);
+        advance(work, held, other, theirs, base, base);
         let d = states - 1 - e;
         let ours = Stretch {
             first: d,
             past: d + 1,
         };
-        advance_joined(best, work, held, below, plan, ours, base, base);
+        advance_joined(best, work, held, plan, ours, base, base);
         e += 1;
     }
 }
@@ -70,7 +68,6 @@ fn sweep_linked(
     best: &mut [u16],
     work: &mut [u16],
     held: &mut [u16],
-    below: &mut [u16],
     plan: Plan,
     other: Plan,
     states: usize,
@@ -78,14 +75,14 @@ fn sweep_linked(
     requires { ⌜ (wellFormed plan ≡ true) × (wellFormed other ≡ true) ⌝ }
     requires { ⌜ Opposite plan other states ⌝ }
     requires { ⌜ (keysSize plan + 2 * stateSize plan ≤ length (now work)) × (keysSize plan ≤ length (now best)) ⌝ }
-    requires { ⌜ (halfOf plan + halfOf plan ≤ length (now held)) × (length (now held) ≤ 40000) × (plan .across + 7 ≤ length (now below)) ⌝ }
+    requires { ⌜ (halfOf plan + halfOf plan ≤ length (now held)) × (length (now held) ≤ 40000) ⌝ }
     ensures { λ _. ⌜ Swept plan other states (now (work .entry)) (now (best .entry)) (now (best .exit)) ⌝ }
 {
     let base = plan.lines * plan.across;
     let size = plan.rows * (plan.planes * plan.across);
     let places = states_fitting(work.len() - base, size);
     let ends = base + places * size;
-    let spare = stacks::at_once(plan, held.len(), below.len()) - 1;
+    let spare = stacks::at_once(plan, held.len()) - 1;
     let mut marks = [0usize; 64];
     let mut stack = Stack {
         base: base,
@@ -98,15 +95,15 @@ fn sweep_linked(
             first: e,
             past: e + 1,
         };
-        advance(work, held, below, other, theirs, ends, ends);
+        advance(work, held, other, theirs, ends, ends);
         let d = states - 1 - e;
-        stack = stacks::fetch(work, &mut marks, held, below, plan, stack, d, spare);
+        stack = stacks::fetch(work, &mut marks, held, plan, stack, d, spare);
         let from = stacks::top_of(plan, stack);
         let ours = Stretch {
             first: stacks::last_mark(&marks, stack.depth),
             past: d + 1,
         };
-        advance_joined(best, work, held, below, plan, ours, from, ends);
+        advance_joined(best, work, held, plan, ours, from, ends);
         e += 1;
     }
 }
@@ -117,16 +114,14 @@ pub(crate) fn sweep_held(best: &mut [u16], work: &mut [u16], plan: Plan, other: 
     requires { ⌜ (wellFormed plan ≡ true) × (wellFormed other ≡ true) ⌝ }
     requires { ⌜ Opposite plan other states ⌝ }
     requires { ⌜ (keysSize plan + stateSize plan ≤ length (now work)) × (plan .linked ≡ true → keysSize plan + 2 * stateSize plan ≤ length (now work)) × (keysSize plan ≤ length (now best)) ⌝ }
-    requires { ⌜ (halfOf plan + halfOf plan ≤ 24480) × (plan .across ≤ 1024) ⌝ }
+    requires { ⌜ halfOf plan + halfOf plan ≤ 24480 ⌝ }
     ensures { λ _. ⌜ Swept plan other states (now (work .entry)) (now (best .entry)) (now (best .exit)) ⌝ }
 {
     let mut held = [0u16; 24496];
-    let mut below = [0u16; 1040];
     let rows = &mut held[LEAD..];
-    let plane = &mut below[LEAD + 1..];
     if plan.linked {
-        sweep_linked(best, work, rows, plane, plan, other, states);
+        sweep_linked(best, work, rows, plan, other, states);
     } else {
-        sweep_apart(best, work, rows, plane, plan, other, states);
+        sweep_apart(best, work, rows, plan, other, states);
     }
 }

@@ -14,7 +14,6 @@ use states::Stretch;
 pub(crate) fn advance(
     work: &mut [u16],
     held: &mut [u16],
-    below: &mut [u16],
     plan: Plan,
     states: Stretch,
     from: usize,
@@ -23,11 +22,11 @@ pub(crate) fn advance(
     requires { ⌜ wellFormed plan ≡ true ⌝ }
     requires { ⌜ (states .first < states .past) × (states .past ≤ 65536) × (keysSize plan ≤ from) × (keysSize plan ≤ to) × (from + stateSize plan ≤ length (now work)) × (to + stateSize plan ≤ length (now work)) ⌝ }
     requires { ⌜ ((from ≡ to) ⊎ ((from + stateSize plan ≤ to) ⊎ (to + stateSize plan ≤ from))) ⌝ }
-    requires { ⌜ (halfWith plan (furtherIn states) + halfWith plan (furtherIn states) ≤ length (now held)) × (length (now held) ≤ 40000) × (plan .across + 7 ≤ length (now below)) ⌝ }
+    requires { ⌜ (halfWith plan (furtherIn states) + halfWith plan (furtherIn states) ≤ length (now held)) × (length (now held) ≤ 40000) ⌝ }
     ensures { λ _. ⌜ Advanced plan (states .first) (states .past) (now (work .entry)) (now (work .exit)) from to ⌝ }
-    ensures { λ _. ⌜ (length (now (held .exit)) ≡ length (now (held .entry))) × (length (now (below .exit)) ≡ length (now (below .entry))) ⌝ }
+    ensures { λ _. ⌜ length (now (held .exit)) ≡ length (now (held .entry)) ⌝ }
 {
-    states::advance(work, held, below, plan, states, from, to);
+    states::advance(work, held, plan, states, from, to);
 }
 
 // States from the one before at `from`, the last of which is joined with the state at `ends`.
@@ -35,7 +34,6 @@ pub(crate) fn advance_joined(
     best: &mut [u16],
     work: &[u16],
     held: &mut [u16],
-    below: &mut [u16],
     plan: Plan,
     states: Stretch,
     from: usize,
@@ -44,10 +42,10 @@ pub(crate) fn advance_joined(
     requires { ⌜ wellFormed plan ≡ true ⌝ }
     requires { ⌜ (states .first < states .past) × (states .past ≤ 65536) × (rowsIn plan (states .past - 1) ≡ plan .rows) × (keysSize plan ≤ length (now best)) ⌝ }
     requires { ⌜ (keysSize plan ≤ from) × (from + stateSize plan ≤ length (now work)) × (keysSize plan ≤ ends) × (ends + stateSize plan ≤ length (now work)) ⌝ }
-    requires { ⌜ (halfWith plan (furtherIn states) + halfWith plan (furtherIn states) ≤ length (now held)) × (length (now held) ≤ 40000) × (plan .across + 7 ≤ length (now below)) ⌝ }
+    requires { ⌜ (halfWith plan (furtherIn states) + halfWith plan (furtherIn states) ≤ length (now held)) × (length (now held) ≤ 40000) ⌝ }
     ensures { λ _. ⌜ Joined plan (states .first) (states .past) (now (work .entry)) (now (best .entry)) (now (best .exit)) from ends ⌝ }
-    ensures { λ _. ⌜ (length (now (held .exit)) ≡ length (now (held .entry))) × (length (now (below .exit)) ≡ length (now (below .entry))) ⌝ }
+    ensures { λ _. ⌜ length (now (held .exit)) ≡ length (now (held .entry)) ⌝ }
     ensures { λ _. ⌜ length (now (best .exit)) ≡ length (now (best .entry)) ⌝ }
 {
-    states::advance_joined(best, work, held, below, plan, states, from, ends);
+    states::advance_joined(best, work, held, plan, states, from, ends);
 }

@@ -14,23 +14,20 @@ same-length c = search needs
 same-length-2 : tie.Need-same-length-2
 same-length-2 c = search needs
 
-same-length-3 : tie.Need-same-length-3
-same-length-3 c = search needs
-
 returns : tie.Need-returns
 returns c =
-    let m = c .before .before .before .before .before .before in
-    let s = m .before .before .before .before .before .before .before in
+    let m = c .before .before .before .before in
+    let s = m .before .before .before .before .before in
     let e = m .advance .ensures in
     let p = s .pre .1 in
-    let taken = e .0 ∙ advances-if _ _ _ _ _ _ _
+    let taken = e .0 ∙ advances-if _ _ _ _ _ _
     record {
       made =
           record {
             form = s .pre .0;
             some = p .0 .0;
             near = p .0 .1;
-            rows = record { twice = p .1 .1 .0; few = p .1 .1 .1; plane = p .1 .1 .2 };
+            rows = record { twice = p .1 .1 .0; few = p .1 .1 .1 };
           };
       source = (p .0 .2, p .0 .4);
       target = (p .0 .3, p .0 .5);
@@ -39,4 +36,4 @@ returns c =
 
 pub advance-spec : {M : Type 1} → statement M
 advance-spec =
-    tie.close (tie.spec advance-requires same-length same-length-2 same-length-3 returns)
+    tie.close (tie.spec advance-requires same-length same-length-2 returns)
