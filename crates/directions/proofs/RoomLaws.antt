@@ -25,7 +25,6 @@ pub record Roomy (p : Plan) (room : ℕ) : Type 0 where
   pub alone : keysSize p + stateSize p ≤ room
   pub pair : p .linked ≡ true → keysSize p + 2 * stateSize p ≤ room
   pub halves : halfOf p + halfOf p ≤ 18720
-  pub row : p .across + 7 ≤ 1032
   pub keys : keysSize p ≤ 65536
   pub some : 1 ≤ stateSize p
 
@@ -70,7 +69,6 @@ roomy p room form fit slim h =
       alone = omega arith;
       pair = λ _. omega arith;
       halves = half-below p (l .few-planes) (l .few-across) (λ e. short-below (p .lines) (p .across) (slim e) (l .few-pixels));
-      row = omega (arith, l .few-across);
       keys = l .few-pixels;
       some = product-some (p .rows) (p .planes * p .across) (l .some-rows) (product-some (p .planes) (p .across) (l .some-planes) (l .some-across));
     }
