@@ -54,7 +54,6 @@ pub record Kept (s : Scan) (backwards : Bool) (plate : List ℤ) (x : ℕ) (r : 
   pub fits : StackFits (r .plan) stack (length work) (length marks)
 
 -- the rows that are held while a state is made find room
-pub record HeldFit (p : Plan) (held below : ℕ) : Type 0 where
+pub record HeldFit (p : Plan) (held : ℕ) : Type 0 where
   pub halves : halfOf p + halfOf p ≤ held
   pub few : held ≤ 40000
-  pub row : p .across + 7 ≤ below

@@ -79,7 +79,6 @@ fn walk_in(
     work: &mut [u16],
     marks: &mut [usize],
     held: &mut [u16],
-    below: &mut [u16],
     plate: &[i16],
     scan: Scan,
     backwards: bool,
@@ -93,7 +92,7 @@ fn walk_in(
     requires { ⌜ Within backwards (length (now path)) (walk .start) (walk .steps) ⌝ }
     requires { ⌜ (getD (now path) (walk .start) 0 < scan .width * scan .height) × (Seen scan backwards (getD (now path) (walk .start) 0) sight) ⌝ }
     requires { ⌜ Kept scan backwards (now plate) (getD (now path) (walk .start) 0) sight (now work) (now marks) made ⌝ }
-    requires { ⌜ (HeldFit (sight .plan) (length (now held)) (length (now below))) × (end .gaps ≡ walk .gaps) ⌝ }
+    requires { ⌜ (HeldFit (sight .plan) (length (now held))) × (end .gaps ≡ walk .gaps) ⌝ }
     requires { ⌜ (Stands scan backwards (now plate) (getD (now path) (walk .start) 0) sight (walk .key) (walk .steps) end) × (EndsAt scan (now plate) (walk .key) (placeKept (sight .frame) (sight .plan .ranked) (rowAt (sight .plan) (end .state) (end .row) + end .pixel))) ⌝ }
     ensures { λ _. ⌜ Trail (scan .width) (scan .height) (bitOf scan) backwards (now (path .entry)) (now (path .exit)) (walk .start) (walk .steps) ⌝ }
     ensures { λ _. ⌜ lowAlong backwards (keyOf scan (now (plate .entry))) (walk .key) (now (path .exit)) (walk .start) (walk .steps + 1) ≤ walk .gaps ⌝ }
@@ -119,15 +118,7 @@ fn walk_in(
             pixel: stand.pixel,
             gaps: left,
         };
-        stack = fetch(
-            work,
-            marks,
-            held,
-            below,
-            plan,
-            stack,
-            wanted(plan, stand.state),
-        );
+        stack = fetch(work, marks, held, plan, stack, wanted(plan, stand.state));
         stand = nearer(work, top_of(plan, stack), plan, here, walk.key);
         n -= 1;
     }
@@ -154,7 +145,6 @@ fn follow_counted(
     ensures { λ _. ⌜ KeysLaid scan (now (plate .entry)) (now (work .exit)) ⌝ }
 {
     let mut held = [0u16; 18720];
-    let mut below = [0u16; 1032];
     let mut marks = [0usize; 64];
     let start = walk.start;
     let sight = sight_of(scan, backwards, path[start]);
@@ -169,7 +159,6 @@ fn follow_counted(
         work,
         &mut marks,
         &mut held,
-        &mut below,
         plan,
         empty,
         wanted(plan, walk.steps + 1),
@@ -181,7 +170,6 @@ fn follow_counted(
         work,
         &mut marks,
         &mut held,
-        &mut below,
         plate,
         scan,
         backwards,

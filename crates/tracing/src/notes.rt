@@ -28,14 +28,13 @@ pub(crate) fn note_side(
     ensures { λ _. ⌜ ((plate : List ℤ) → KeysLaid scan plate (now (work .entry)) → NotedSide scan backwards plate x to (now (work .exit)) (now (notes .entry)) (now (notes .exit))) ⌝ }
 {
     let mut held = [0u16; 18720];
-    let mut below = [0u16; 1032];
     let sight = sight_of(scan, backwards, x);
     let plan = sight.plan;
     let base = plan.lines * plan.across;
     fill_run(notes, to, (scan.steps + 1) * (scan.setting.gaps + 1), 0);
     let mut e = 0;
     while e < sight.states {
-        advance(work, &mut held, &mut below, plan, e, base);
+        advance(work, &mut held, plan, e, base);
         note_state(notes, to, work, base, plan, e, scan.slack);
         e += 1;
     }

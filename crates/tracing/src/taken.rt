@@ -28,25 +28,18 @@ pub(crate) fn fill_run(to: &mut [u16], at: usize, n: usize, v: u16)
 }
 
 // State e in the place of the last one.
-pub(crate) fn advance(
-    work: &mut [u16],
-    held: &mut [u16],
-    below: &mut [u16],
-    plan: Plan,
-    e: usize,
-    at: usize,
-)
+pub(crate) fn advance(work: &mut [u16], held: &mut [u16], plan: Plan, e: usize, at: usize)
     requires { ⌜ wellFormed plan ≡ true ⌝ }
     requires { ⌜ (e < 65536) × (keysSize plan ≤ at) × (at + stateSize plan ≤ length (now work)) ⌝ }
-    requires { ⌜ (halfOf plan + halfOf plan ≤ length (now held)) × (length (now held) ≤ 40000) × (plan .across + 7 ≤ length (now below)) ⌝ }
+    requires { ⌜ (halfOf plan + halfOf plan ≤ length (now held)) × (length (now held) ≤ 40000) ⌝ }
     ensures { λ _. ⌜ Advanced plan e (e + 1) (now (work .entry)) (now (work .exit)) at at ⌝ }
-    ensures { λ _. ⌜ (length (now (held .exit)) ≡ length (now (held .entry))) × (length (now (below .exit)) ≡ length (now (below .entry))) ⌝ }
+    ensures { λ _. ⌜ length (now (held .exit)) ≡ length (now (held .entry)) ⌝ }
 {
     let this = Stretch {
         first: e,
         past: e + 1,
     };
-    states::advance(work, held, below, plan, this, at, at);
+    states::advance(work, held, plan, this, at, at);
 }
 
 // A stack whose last state is the one of number `want` less one.
@@ -54,19 +47,18 @@ pub(crate) fn fetch(
     work: &mut [u16],
     marks: &mut [usize],
     held: &mut [u16],
-    below: &mut [u16],
     plan: Plan,
     stack: Stack,
     want: usize,
 ) -> Stack
     requires { ⌜ wellFormed plan ≡ true ⌝ }
     requires { ⌜ (StackFits plan stack (length (now work)) (length (now marks))) × (want ≤ 1024) ⌝ }
-    requires { ⌜ (halfOf plan + halfOf plan ≤ length (now held)) × (length (now held) ≤ 40000) × (plan .across + 7 ≤ length (now below)) ⌝ }
+    requires { ⌜ (halfOf plan + halfOf plan ≤ length (now held)) × (length (now held) ≤ 40000) ⌝ }
     ensures { λ r. ⌜ (r .base ≡ stack .base) × (r .places ≡ stack .places) × (r .depth ≤ stack .places) ⌝ }
     ensures { λ r. ⌜ Fetched plan stack (r .depth) want 0 (now (work .entry)) (now (marks .entry)) (now (work .exit)) (now (marks .exit)) ⌝ }
-    ensures { λ _. ⌜ (length (now (held .exit)) ≡ length (now (held .entry))) × (length (now (below .exit)) ≡ length (now (below .entry))) ⌝ }
+    ensures { λ _. ⌜ length (now (held .exit)) ≡ length (now (held .entry)) ⌝ }
 {
-    stacks::fetch(work, marks, held, below, plan, stack, want, 0)
+    stacks::fetch(work, marks, held, plan, stack, want, 0)
 }
 
 // Where its last state begins.

@@ -1,15 +1,13 @@
 -- `follow_counted` meets its contract: the state with the walks of all steps is made, and from a far end that is found there the
 -- path is written.
-use Prim.Native.Nat.{ℕ, _+_, _*_, _≤_}
-use mathlib.Core.Path.{_≡_, refl, _∙_}
+use Prim.Native.Nat.{_*_, _≤_}
+use mathlib.Core.Path.{refl, _∙_}
 use native.Mathlib.Omega.{arith}
 use borrow.Author.Needs.{needs}
 use lib.ListN.{length, getD, replicate}
-use Rattle.plans.specs.Plans.{halfOf}
-use Rattle.plans.specs.declared.plan.Plan.{Plan}
 use Rattle.stacks.specs.declared.stack.Stack.{Stack}
 use Rattle.stacks.proofs.StackLaws.{row-below, state-below}
-use Rattle.tracing.specs.Following.{Kept, HeldFit}
+use Rattle.tracing.specs.Following.{Kept}
 use Rattle.tracing.proofs.Sighting.{sight-planes, sight-formed, sight-sound, sight-room, sight-states-few}
 use Rattle.tracing.proofs.Walking.{empty-fits, kept-empty, kept-fetched, top-held, top-fits}
 use Rattle.tracing.proofs.FarEnd.{wanted-some, end-few, end-row, end-stands, end-ends}
@@ -19,37 +17,34 @@ use Rattle.tracing.proofs.follow.follow_counted.Tie as tie
 -- before the first state is made the stack is empty
 start-kept :
     (c : tie.After-wanted) →
-    let a = c .before .before .before .before .before .before .before .before .before .before .before .before .before .before .before .args in
-    let v = c .before .before .before .before .before .before .before .before .before .before .before .sight-of in
+    let a = c .before .before .before .before .before .before .before .before .before .before .before .before .before .before .args in
+    let v = c .before .before .before .before .before .before .before .before .before .before .sight-of in
     Kept (a .scan) (a .backwards) (a .plate .now) (getD (a .path .now) (a .walk .start) 0) (v .result) (a .work .now) (replicate 64 0)
-    (record { base = v .result .plan .lines * v .result .plan .across; places = c .before .before .before .before .before .before .states-fitting .result; depth = 0 })
+    (record { base = v .result .plan .lines * v .result .plan .across; places = c .before .before .before .before .before .states-fitting .result; depth = 0 })
 start-kept c =
-    let s = c .before .before .before .before .before .before .before .before .before .before .before .before .before .before .before in
+    let s = c .before .before .before .before .before .before .before .before .before .before .before .before .before .before in
     let a = s .args in
-    let v = c .before .before .before .before .before .before .before .before .before .before .before .sight-of in
+    let v = c .before .before .before .before .before .before .before .before .before .before .sight-of in
     let x = getD (a .path .now) (a .walk .start) 0 in
-    let o = c .before .before .before .before .before .before .states-fitting .ensures in
+    let o = c .before .before .before .before .before .states-fitting .ensures in
     let room = sight-room (a .scan) (s .pre .0 .0) (a .backwards) x (v .result) (v .ensures) (length (a .work .now)) (s .pre .1 .0 .1) in
-    let stack : Stack = record { base = v .result .plan .lines * v .result .plan .across; places = c .before .before .before .before .before .before .states-fitting .result; depth = 0 } in
+    let stack : Stack = record { base = v .result .plan .lines * v .result .plan .across; places = c .before .before .before .before .before .states-fitting .result; depth = 0 } in
     kept-empty (a .scan) (a .backwards) (a .plate .now) x (v .result) (s .pre .0 .0) (v .ensures) (a .work .now) (replicate 64 0) stack refl (s .pre .1 .1 .0)
     (empty-fits (a .scan) (a .backwards) (a .plate .now) x (v .result) (s .pre .0 .0) (v .ensures) (a .work .now) (replicate 64 0) stack refl room refl (o .0) (o .1)
     (o .2) (o .1))
 
 -- the state that is wanted is one of the side's
-few-wanted : (c : tie.After-wanted) → c .wanted .result ≤ c .before .before .before .before .before .before .before .before .before .before .before .sight-of .result .states
+few-wanted : (c : tie.After-wanted) → c .wanted .result ≤ c .before .before .before .before .before .before .before .before .before .before .sight-of .result .states
 few-wanted c =
-    let s = c .before .before .before .before .before .before .before .before .before .before .before .before .before .before .before in
+    let s = c .before .before .before .before .before .before .before .before .before .before .before .before .before .before in
     let a = s .args in
-    let v = c .before .before .before .before .before .before .before .before .before .before .before .sight-of in
+    let v = c .before .before .before .before .before .before .before .before .before .before .sight-of in
     omega (
       arith,
       c .wanted .ensures,
       end-few (a .scan) (a .backwards) (a .plate .now) (getD (a .path .now) (a .walk .start) 0) (v .result) (s .pre .0 .0) (v .ensures) (s .pre .1 .1 .0 .levels) (a .walk .key) (a .walk .steps)
           (a .walk .gaps) (s .pre .0 .1) (s .pre .1 .0 .2) (s .pre .1 .0 .3) (s .pre .1 .1 .1 .1 .1),
     )
-
-held-fit : (p : Plan) (held below : ℕ) → halfOf p + halfOf p ≤ 18720 → p .across + 7 ≤ 1032 → held ≡ 18720 → below ≡ 1032 → HeldFit p held below
-held-fit p held below h k eh eb = record { halves = omega arith; few = omega arith; row = omega arith }
 
 mul-sight-of : tie.Need-mul-sight-of
 mul-sight-of c = search needs
@@ -105,37 +100,34 @@ slice-aggregate-fetch c = search needs
 slice-aggregate-fetch-2 : tie.Need-slice-aggregate-fetch-2
 slice-aggregate-fetch-2 c = search needs
 
-slice-aggregate-fetch-3 : tie.Need-slice-aggregate-fetch-3
-slice-aggregate-fetch-3 c = search needs
-
 add-wanted : tie.Need-add-wanted
 add-wanted c =
-    let s = c .before .before .before .before .before .before .before .before .before .before .before .before .before .before in omega (arith, s .pre .1 .0 .2, s .pre .0 .0 .few-steps)
+    let s = c .before .before .before .before .before .before .before .before .before .before .before .before .before in omega (arith, s .pre .1 .0 .2, s .pre .0 .0 .few-steps)
 
 wanted-requires : tie.Need-wanted-requires
 wanted-requires c κs = search needs
 
 fetch-requires : tie.Need-fetch-requires
 fetch-requires c κs =
-    let s = c .before .before .before .before .before .before .before .before .before .before .before .before .before .before .before in
+    let s = c .before .before .before .before .before .before .before .before .before .before .before .before .before .before in
     let a = s .args in
-    let v = c .before .before .before .before .before .before .before .before .before .before .before .sight-of in
+    let v = c .before .before .before .before .before .before .before .before .before .before .sight-of in
     let x = getD (a .path .now) (a .walk .start) 0 in
     let room = sight-room (a .scan) (s .pre .0 .0) (a .backwards) x (v .result) (v .ensures) (length (a .work .now)) (s .pre .1 .0 .1) in (
       sight-formed (a .scan) (s .pre .0 .0) (a .backwards) x (v .result) (v .ensures),
       (
         (start-kept c .fits, omega (arith, few-wanted c, sight-states-few (a .scan) (s .pre .0 .0) (a .backwards) x (v .result) (v .ensures))),
-        (room .halves, omega arith, room .row),
+        (room .halves, omega arith),
       ),
     )
 
 top-of-requires : tie.Need-top-of-requires
 top-of-requires c κs =
-    let s = c .before .before .before .before .before .before .before .before .before .before .before .before .before .before .before .before .before .before .before .before .before in
+    let s = c .before .before .before .before .before .before .before .before .before .before .before .before .before .before .before .before .before .before .before in
     let a = s .args in
-    let v = c .before .before .before .before .before .before .before .before .before .before .before .before .before .before .before .before .before .sight-of in
-    let f = c .before .before .before .before .before .fetch in
-    let fits = start-kept (c .before .before .before .before .before .before) .fits in (
+    let v = c .before .before .before .before .before .before .before .before .before .before .before .before .before .before .before .sight-of in
+    let f = c .before .before .before .before .fetch in
+    let fits = start-kept (c .before .before .before .before .before) .fits in (
       sight-formed (a .scan) (s .pre .0 .0) (a .backwards) (getD (a .path .now) (a .walk .start) 0) (v .result) (v .ensures),
       omega (arith, f .ensures .0 .2, fits .few),
       omega (arith, f .ensures .0 .0, fits .near),
@@ -143,14 +135,14 @@ top-of-requires c κs =
 
 find-end-requires : tie.Need-find-end-requires
 find-end-requires c κs =
-    let s = c .before .before .before .before .before .before .before .before .before .before .before .before .before .before .before .before .before .before .before .before .before .before .before in
+    let s = c .before .before .before .before .before .before .before .before .before .before .before .before .before .before .before .before .before .before .before .before .before in
     let a = s .args in
-    let v = c .before .before .before .before .before .before .before .before .before .before .before .before .before .before .before .before .before .before .before .sight-of in
+    let v = c .before .before .before .before .before .before .before .before .before .before .before .before .before .before .before .before .before .sight-of in
     let x = getD (a .path .now) (a .walk .start) 0 in
-    let f = c .before .before .before .before .before .before .before .fetch in
+    let f = c .before .before .before .before .before .before .fetch in
     let top =
-    top-fits (a .scan) (a .backwards) (a .plate .now) x (v .result) (s .pre .0 .0) (v .ensures) _ _ (f .last .0) (f .last .1 .0) _ (f .result) (c .before .before .before .before .before .before .before .before .wanted .result) (few-wanted (c .before .before .before .before .before .before .before .before))
-    (start-kept (c .before .before .before .before .before .before .before .before)) (f .ensures .0 .0) (f .ensures .0 .1) (f .ensures .0 .2) (f .ensures .1 .0) (c .before .top-of .result) (c .before .top-of .ensures) in (
+    top-fits (a .scan) (a .backwards) (a .plate .now) x (v .result) (s .pre .0 .0) (v .ensures) _ _ (f .last .0) (f .last .1 .0) _ (f .result) (c .before .before .before .before .before .before .before .wanted .result) (few-wanted (c .before .before .before .before .before .before .before))
+    (start-kept (c .before .before .before .before .before .before .before)) (f .ensures .0 .0) (f .ensures .0 .1) (f .ensures .0 .2) (f .ensures .1 .0) (c .before .top-of .result) (c .before .top-of .ensures) in (
       sight-formed (a .scan) (s .pre .0 .0) (a .backwards) x (v .result) (v .ensures),
       (
         omega (arith, s .pre .1 .0 .2, s .pre .0 .0 .few-steps),
@@ -167,25 +159,22 @@ slice-aggregate-walk-in c = search needs
 slice-aggregate-walk-in-2 : tie.Need-slice-aggregate-walk-in-2
 slice-aggregate-walk-in-2 c = search needs
 
-slice-aggregate-walk-in-3 : tie.Need-slice-aggregate-walk-in-3
-slice-aggregate-walk-in-3 c = search needs
-
 walk-in-requires : tie.Need-walk-in-requires
 walk-in-requires c κs =
-    let s = c .before .before .before .before .before .before .before .before .before .before .before .before .before .before .before .before .before .before .before .before .before .before .before .before .before .before .before .before .before in
+    let s = c .before .before .before .before .before .before .before .before .before .before .before .before .before .before .before .before .before .before .before .before .before .before .before .before .before .before in
     let a = s .args in
-    let v = c .before .before .before .before .before .before .before .before .before .before .before .before .before .before .before .before .before .before .before .before .before .before .before .before .before .sight-of in
+    let v = c .before .before .before .before .before .before .before .before .before .before .before .before .before .before .before .before .before .before .before .before .before .before .sight-of in
     let x = getD (a .path .now) (a .walk .start) 0 in
-    let f = c .before .before .before .before .before .before .before .before .before .before .before .before .before .fetch in
-    let w = c .before .before .before .before .before .before .before .before .before .before .before .before .before .before .wanted in
-    let e = c .before .before .before .before .before .find-end in
+    let f = c .before .before .before .before .before .before .before .before .before .before .before .fetch in
+    let w = c .before .before .before .before .before .before .before .before .before .before .before .before .wanted in
+    let e = c .before .before .before .before .find-end in
     let room = sight-room (a .scan) (s .pre .0 .0) (a .backwards) x (v .result) (v .ensures) (length (a .work .now)) (s .pre .1 .0 .1) in
     let kept =
-    kept-fetched (a .scan) (a .backwards) (a .plate .now) x (v .result) (s .pre .0 .0) (v .ensures) _ _ (f .last .0) (f .last .1 .0) _ (f .result) (w .result) (few-wanted (c .before .before .before .before .before .before .before .before .before .before .before .before .before .before))
-    (start-kept (c .before .before .before .before .before .before .before .before .before .before .before .before .before .before)) (f .ensures .0 .0) (f .ensures .0 .1) (f .ensures .0 .2) (f .ensures .1 .0) in
+    kept-fetched (a .scan) (a .backwards) (a .plate .now) x (v .result) (s .pre .0 .0) (v .ensures) _ _ (f .last .0) (f .last .1 .0) _ (f .result) (w .result) (few-wanted (c .before .before .before .before .before .before .before .before .before .before .before .before))
+    (start-kept (c .before .before .before .before .before .before .before .before .before .before .before .before)) (f .ensures .0 .0) (f .ensures .0 .1) (f .ensures .0 .2) (f .ensures .1 .0) in
     let held =
-    top-held (a .scan) (a .backwards) (a .plate .now) x (v .result) (s .pre .0 .0) (v .ensures) _ _ (f .last .0) (f .last .1 .0) _ (f .result) (w .result) (few-wanted (c .before .before .before .before .before .before .before .before .before .before .before .before .before .before))
-    (start-kept (c .before .before .before .before .before .before .before .before .before .before .before .before .before .before)) (f .ensures .0 .0) (f .ensures .0 .1) (f .ensures .0 .2) (f .ensures .1 .0) (c .before .before .before .before .before .before .before .top-of .result) (c .before .before .before .before .before .before .before .top-of .ensures)
+    top-held (a .scan) (a .backwards) (a .plate .now) x (v .result) (s .pre .0 .0) (v .ensures) _ _ (f .last .0) (f .last .1 .0) _ (f .result) (w .result) (few-wanted (c .before .before .before .before .before .before .before .before .before .before .before .before))
+    (start-kept (c .before .before .before .before .before .before .before .before .before .before .before .before)) (f .ensures .0 .0) (f .ensures .0 .1) (f .ensures .0 .2) (f .ensures .1 .0) (c .before .before .before .before .before .before .top-of .result) (c .before .before .before .before .before .before .top-of .ensures)
     (omega (arith, w .ensures, wanted-some (a .scan) (a .backwards) (a .plate .now) x (v .result) (s .pre .0 .0) (v .ensures) (v .result .plan .ranked) (a .walk .steps))) in (
       (s .pre .0 .0, s .pre .1 .0 .0, s .pre .1 .1 .0 .levels, s .pre .0 .1),
       (
@@ -197,12 +186,12 @@ walk-in-requires c κs =
             (
               kept,
               (
-                (held-fit (v .result .plan) _ _ (room .halves) (room .row) (f .ensures .1 .1 .0) (f .ensures .1 .1 .1), e .ensures .is-gaps),
+                (record { halves = omega (arith, room .halves, f .ensures .1 .1); few = omega (arith, f .ensures .1 .1) }, e .ensures .is-gaps),
                 (
                   end-stands (a .scan) (a .backwards) (a .plate .now) x (v .result) (s .pre .0 .0) (v .ensures) (s .pre .1 .1 .0 .levels) (a .walk .key) (a .walk .steps) (a .walk .gaps) (s .pre .0 .1)
-                      (s .pre .1 .0 .2) (s .pre .1 .0 .3) (s .pre .1 .1 .1 .1 .1) (f .last .0) (c .before .before .before .before .before .before .before .top-of .result) (w .result) (e .result) (w .ensures) held (kept .keys) (e .ensures),
+                      (s .pre .1 .0 .2) (s .pre .1 .0 .3) (s .pre .1 .1 .1 .1 .1) (f .last .0) (c .before .before .before .before .before .before .top-of .result) (w .result) (e .result) (w .ensures) held (kept .keys) (e .ensures),
                   end-ends (a .scan) (a .backwards) (a .plate .now) x (v .result) (s .pre .0 .0) (v .ensures) (s .pre .1 .1 .0 .levels) (a .walk .key) (a .walk .steps) (a .walk .gaps) (s .pre .0 .1)
-                      (s .pre .1 .0 .2) (s .pre .1 .0 .3) (s .pre .1 .1 .1 .1 .1) (f .last .0) (c .before .before .before .before .before .before .before .top-of .result) (w .result) (e .result) (w .ensures) held (kept .keys) (e .ensures),
+                      (s .pre .1 .0 .2) (s .pre .1 .0 .3) (s .pre .1 .1 .1 .1 .1) (f .last .0) (c .before .before .before .before .before .before .top-of .result) (w .result) (e .result) (w .ensures) held (kept .keys) (e .ensures),
                 ),
               ),
             ),
@@ -216,7 +205,7 @@ same-length c = search needs
 
 same-length-2 : tie.Need-same-length-2
 same-length-2 c =
-    c .before .before .before .before .before .before .before .walk-in .kept .1 .0 ∙ c .before .before .before .before .before .before .before .before .before .before .before .before .before .before .before .before .before .before .before .before .before .fetch .kept .0
+    c .before .before .before .before .before .before .walk-in .kept .1 .0 ∙ c .before .before .before .before .before .before .before .before .before .before .before .before .before .before .before .before .before .before .fetch .kept .0
 
 returns : tie.Need-returns
 returns c = search needs
@@ -235,7 +224,6 @@ follow-counted-spec =
     states-fitting-requires
     slice-aggregate-fetch
     slice-aggregate-fetch-2
-    slice-aggregate-fetch-3
     add-wanted
     wanted-requires
     fetch-requires
@@ -243,7 +231,6 @@ follow-counted-spec =
     find-end-requires
     slice-aggregate-walk-in
     slice-aggregate-walk-in-2
-    slice-aggregate-walk-in-3
     walk-in-requires
     same-length
     same-length-2
