@@ -6,7 +6,7 @@
 // each other (sweep.rt), until there is none left or every pixel has reached its own level, and in the
 // end each pixel is held below its own level (finish.rt).
 //
-// A call takes time by the sizes and the setting, and about 185 KB of stack, most of it the best numbers of
+// A call takes time by the sizes and the setting, and about 182 KB of stack, most of it the best numbers of
 // the pixels. There is no recursion.
 ghost use mathlib.Core.Path.{_≡_};
 ghost use lib.ListN.{length};

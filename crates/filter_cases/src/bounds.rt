@@ -17,28 +17,40 @@ fn filter_pair(name: &[u8], lowest: &[i16], highest: &[i16], s: Setting) {
     print_bounds(name, answer, &low, &high);
 }
 
-pub(crate) fn bound_rows() {
+fn q_and_above() {
     let q = [9i16, 5, 12, 8];
-    let q_high = [9i16, 6, 12, 9];
+    let above = [9i16, 6, 12, 9];
     let opening = setting(OPENING, EAST, 4, 1);
-    filter_pair(b"Q and above", &q, &q_high, opening);
+    filter_pair(b"Q and above", &q, &above, opening);
     let closing = setting(CLOSING, EAST, 4, 1);
-    filter_pair(b"Q and above, closing", &q, &q_high, closing);
+    filter_pair(b"Q and above, closing", &q, &above, closing);
+}
+
+fn gap_first_and_above() {
     let first = [5i16, 9, 12, 8];
-    let first_high = [7i16, 9, 13, 8];
-    filter_pair(
-        b"gap first and above, ends 1",
-        &first,
-        &first_high,
-        crack_ended(opening),
-    );
-    let crossed = [9i16, 4, 12, 7];
-    filter_pair(b"Q and below", &q, &crossed, opening);
-    filter_pair(b"Q and below, ends 2", &q, &crossed, with_ends(opening, 2));
-    filter_pair(
-        b"Q and above by 5",
-        &q,
-        &q_high,
-        setting(OPENING, EAST, 5, 1),
-    );
+    let above = [7i16, 9, 13, 8];
+    let ended = crack_ended(setting(OPENING, EAST, 4, 1));
+    filter_pair(b"gap first and above, ends 1", &first, &above, ended);
+}
+
+fn q_and_below() {
+    let q = [9i16, 5, 12, 8];
+    let below = [9i16, 4, 12, 7];
+    let opening = setting(OPENING, EAST, 4, 1);
+    filter_pair(b"Q and below", &q, &below, opening);
+    filter_pair(b"Q and below, ends 2", &q, &below, with_ends(opening, 2));
+}
+
+fn q_and_above_by_five() {
+    let q = [9i16, 5, 12, 8];
+    let above = [9i16, 6, 12, 9];
+    let five = setting(OPENING, EAST, 5, 1);
+    filter_pair(b"Q and above by 5", &q, &above, five);
+}
+
+pub(crate) fn bound_rows() {
+    q_and_above();
+    gap_first_and_above();
+    q_and_below();
+    q_and_above_by_five();
 }

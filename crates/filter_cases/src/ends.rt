@@ -14,32 +14,43 @@ fn filter_row(name: &[u8], row: &[i16], s: Setting, result: &mut [i16]) {
     print_plate(name, answer, result);
 }
 
-pub(crate) fn end_rows() {
-    let mut four = [0i16; 4];
-    let first = [5i16, 9, 12, 8];
+fn gap_first() {
+    let mut result = [0i16; 4];
+    let row = [5i16, 9, 12, 8];
     let opening = setting(OPENING, EAST, 4, 1);
-    filter_row(b"gap first", &first, opening, &mut four);
-    filter_row(
-        b"gap first, ends 1",
-        &first,
-        crack_ended(opening),
-        &mut four,
-    );
-    let dark = [12i16, 5, 9, 8];
+    filter_row(b"gap first", &row, opening, &mut result);
+    let ended = crack_ended(opening);
+    filter_row(b"gap first, ends 1", &row, ended, &mut result);
+}
+
+fn dark_gap_first() {
+    let mut result = [0i16; 4];
+    let row = [12i16, 5, 9, 8];
     let closing = setting(CLOSING, EAST, 4, 1);
-    filter_row(b"gap first, closing", &dark, closing, &mut four);
-    filter_row(
-        b"gap first, closing, ends 1",
-        &dark,
-        crack_ended(closing),
-        &mut four,
-    );
+    filter_row(b"gap first, closing", &row, closing, &mut result);
+    let ended = crack_ended(closing);
+    filter_row(b"gap first, closing, ends 1", &row, ended, &mut result);
+}
+
+fn gap_between() {
+    let mut result = [0i16; 4];
     let q = [9i16, 5, 12, 8];
-    filter_row(b"Q, ends 1", &q, crack_ended(opening), &mut four);
-    let mut five = [0i16; 5];
-    let two = [9i16, 1, 9, 9, 1];
+    let ended = crack_ended(setting(OPENING, EAST, 4, 1));
+    filter_row(b"Q, ends 1", &q, ended, &mut result);
+}
+
+fn two_gaps() {
+    let mut result = [0i16; 5];
+    let row = [9i16, 1, 9, 9, 1];
     let three = crack_ended(setting(OPENING, EAST, 3, 1));
-    filter_row(b"two gaps by 3, ends 1", &two, three, &mut five);
+    filter_row(b"two gaps by 3, ends 1", &row, three, &mut result);
     let pairs = crack_ended(setting(OPENING, EAST, 2, 1));
-    filter_row(b"two gaps by 2, ends 1", &two, pairs, &mut five);
+    filter_row(b"two gaps by 2, ends 1", &row, pairs, &mut result);
+}
+
+pub(crate) fn end_rows() {
+    gap_first();
+    dark_gap_first();
+    gap_between();
+    two_gaps();
 }

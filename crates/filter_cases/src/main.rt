@@ -21,6 +21,7 @@ use plate::Setting;
 fn main() {
     one_pixel();
     row_of_four();
+    row_of_four_upward();
     two_rows();
     sieving::sieve_rows();
     ends::end_rows();
@@ -54,6 +55,10 @@ fn row_of_four() {
     filter_four(b"P3", 4, 1, &q, setting(OPENING, EAST, 4, 1));
     filter_four(b"P4", 4, 1, &q, setting(OPENING, EAST, 4, 0));
     filter_four(b"P5", 4, 1, &q, setting(CLOSING, EAST, 4, 1));
+}
+
+fn row_of_four_upward() {
+    let q = [9i16, 5, 12, 8];
     filter_four(b"P6", 4, 1, &q, setting(OPENING, NORTH, 2, 0));
     filter_four(b"P6 closing", 4, 1, &q, setting(CLOSING, NORTH, 2, 0));
     filter_four(b"P7", 4, 1, &q, setting(OPENING, NORTH_EAST, 2, 0));

@@ -1,187 +1,191 @@
--- Laws of a row that is made of held ones, plane by plane. What is read lies wholly apart from the slot that is written, so that it is still as it
--- was at the beginning; what is kept of a plane is the layer that the next one needs. A run may be longer than the row: what it makes past it is free.
-use Prim.Native.Nat.{ℕ, suc, _+_, _-_, _*_, _≤_, _<_, min, max}
-use mathlib.Core.Path.{_≡_, sym, ap, _∙_, subst}
+-- Laws of a row that is made of held ones, eight pixels at a time in all planes. What is read lies wholly apart from the slot that is written, so that
+-- it is still as it was at the beginning. A run may be longer than the row: what it makes past it is free.
+use Prim.Native.Nat.{ℕ, zero, suc, _+_, _-_, _*_, _≤_, _<_, min, max}
+use mathlib.Core.Path.{_≡_, refl, sym, ap, _∙_, subst}
 use mathlib.Core.Logic.{_⊎_, inl, inr}
 use mathlib.Core.List.{List}
-use native.Mathlib.Nat.{add-mul}
 use native.Mathlib.Omega.{arith}
 use lib.ListN.{getD}
-use Rattle.states.specs.Runs.{Between, TapsFit, greatestAt}
-use Rattle.plans.specs.Plans.{pitchOf, blockOf}
-use Rattle.states.specs.Rows.{TapsOf, layerAhead, blended}
-use Rattle.plans.specs.declared.plan.Plan.{Plan}
-use Rattle.plans.proofs.PlanSizes.{plane-fits}
-use Rattle.states.proofs.PlaneLaws.{In, Planes, plane-run, planes-none, planes-more}
+use Rattle.basics.proofs.Numbers.{le-or-lt, rows-fit}
+use Rattle.states.specs.Runs.{Between, Apart, TapsFit, greatestAt}
+use Rattle.states.specs.Rows.{In, Planes, RowPut, TapsOf, BlendFits, layerAhead, blended}
+use Rattle.states.proofs.PlaneLaws.{apart-then, plane-run, planes-none, planes-more, planes-ends}
+use Rattle.states.proofs.RowLaws.{row-put}
 
--- the taps of a run: those of pixel 0 of plane 0, `lo` pixels and so many planes further on
-pub record TapsAt (T0 T1 T2 TO t0 t1 t2 to lo base : ℕ) : Type 0 where
-  pub is0 : T0 ≡ t0 + lo + base
-  pub is1 : T1 ≡ t1 + lo + base
-  pub is2 : T2 ≡ t2 + lo + base
-  pub is-to : TO ≡ to + lo + base
+-- ---- what fits
 
-module _ (T0 T1 T2 TO t0 t1 t2 to lo : ℕ) where
-  pub taps-first :
-      (pitch : ℕ) → (T0 ≡ t0 + lo) × (T1 ≡ t1 + lo) × (T2 ≡ t2 + lo) × (TO ≡ to + lo) → TapsAt T0 T1 T2 TO t0 t1 t2 to lo (0 * pitch)
-  taps-first pitch e = record { is0 = omega (arith, e); is1 = omega (arith, e); is2 = omega (arith, e); is-to = omega (arith, e) }
+pub fits-before :
+    (planes pitch x y t0 t1 t2 to size now : ℕ) → BlendFits planes pitch x t0 t1 t2 to size → y ≤ x → now ≡ size →
+    BlendFits planes pitch y t0 t1 t2 to now
+fits-before planes pitch x y t0 t1 t2 to size now f l e =
+    subst (λ (n : ℕ). BlendFits planes pitch y t0 t1 t2 to n) (sym e)
+    (record { few = f .few; narrow = f .narrow; room = omega (arith, f .room); taps = f .taps; small = f .small })
 
-  -- the run before is a plane back
-  pub taps-next :
-      (R0 R1 R2 RO pitch base : ℕ) →
-      TapsAt (R0 + pitch) (R1 + pitch) (R2 + pitch) (RO + pitch) t0 t1 t2 to lo base →
-      (T0 ≡ R0 + pitch) × (T1 ≡ R1 + pitch) × (T2 ≡ R2 + pitch) × (TO ≡ RO + pitch) →
-      TapsAt T0 T1 T2 TO t0 t1 t2 to lo base
-  taps-next R0 R1 R2 RO pitch base s e =
-      record { is0 = e .0 ∙ s .is0; is1 = e .1 ∙ s .is1; is2 = e .2 ∙ s .is2; is-to = e .3 ∙ s .is-to }
+-- the row of the only plane, and seven numbers more
+pub sole-fits : (pitch hi t0 t1 t2 to size : ℕ) → BlendFits 1 pitch hi t0 t1 t2 to size → TapsFit t0 t1 t2 to (hi + 7) size
+sole-fits pitch hi t0 t1 t2 to size f =
+    record {
+      clear0 = apart t0 (f .taps .clear0);
+      clear1 = apart t1 (f .taps .clear1);
+      clear2 = apart t2 (f .taps .clear2);
+      in0 = omega (arith, f .room, f .taps .in0);
+      in1 = omega (arith, f .room, f .taps .in1);
+      in2 = omega (arith, f .room, f .taps .in2);
+      in-to = omega (arith, f .room, f .taps .in-to);
+    }
+  where
+    apart : (t : ℕ) → (t + 1 * pitch ≤ to + 1) ⊎ (to + 1 * pitch ≤ t + 1) → (t + (hi + 7) ≤ to) ⊎ (to + (hi + 7) ≤ t)
+    apart t o = elim o [ inl u ↦ inl (omega (arith, f .room)) | inr u ↦ inr (omega (arith, f .room)) ]
 
-  pub taps-on :
-      (pitch j : ℕ) →
-      TapsAt T0 T1 T2 TO t0 t1 t2 to lo (j * pitch) →
-      TapsAt (T0 + pitch) (T1 + pitch) (T2 + pitch) (TO + pitch) t0 t1 t2 to lo ((j + 1) * pitch)
-  taps-on pitch j s =
-      record {
-        is0 = omega (arith, s .is0, add-mul j 1 pitch);
-        is1 = omega (arith, s .is1, add-mul j 1 pitch);
-        is2 = omega (arith, s .is2, add-mul j 1 pitch);
-        is-to = omega (arith, s .is-to, add-mul j 1 pitch);
-      }
+module _ (planes pitch t0 t1 t2 to size : ℕ) (taps : TapsOf (planes * pitch) t0 t1 t2 to size) where
+  in-block : (j : ℕ) → j < planes → j * pitch + pitch ≤ planes * pitch
+  in-block j l = omega (arith, rows-fit j 1 planes pitch (omega arith))
 
--- the planes made so far, and what is kept of the last of them
-pub record Blending (old new below : List ℕ) (key : ℕ → ℕ) (p : Plan) (t0 t1 t2 to lo n past : ℕ) : Type 0 where
-  pub made : Planes (In (lo + 1) (lo + n + 1)) (λ j X. blended old (pitchOf p) t0 t1 t2 key j (X - 1)) old new (to - 1) (pitchOf p) past
-  pub kept : (x : ℕ) → x < n → getD below x 0 ≡ layerAhead old (pitchOf p) t0 t1 t2 past (lo + x)
+  -- ---- what is read is as it was
 
-module _ (p : Plan) (t0 t1 t2 to size lo n past T0 T1 T2 TO : ℕ)
-    (clear : TapsOf p t0 t1 t2 to size)
-    (room : lo + n ≤ p .across + 7)
-    (left : past < p .planes)
-    (at-taps : TapsAt T0 T1 T2 TO t0 t1 t2 to lo (past * pitchOf p)) where
-  in-block : past * pitchOf p + pitchOf p ≤ blockOf p
-  in-block = plane-fits p past (omega arith)
-
-  apart-runs :
-      (t : ℕ) → (t + blockOf p ≤ to + 1) ⊎ (to + blockOf p ≤ t + 1) →
-      (t + lo + past * pitchOf p + n ≤ TO) ⊎ (TO + n ≤ t + lo + past * pitchOf p)
-  apart-runs t o =
-      elim o [
-        | inl u ↦ inl (omega (arith, in-block, at-taps .is-to))
-        | inr u ↦ inr (omega (arith, in-block, at-taps .is-to))
-      ]
-
-  pub taps-fit : (room′ : ℕ) → room′ ≡ size → TapsFit T0 T1 T2 TO n room′
-  taps-fit room′ same =
-      record {
-        clear0 = subst (λ (T : ℕ). (T + n ≤ TO) ⊎ (TO + n ≤ T)) (sym (at-taps .is0)) (apart-runs t0 (clear .clear0));
-        clear1 = subst (λ (T : ℕ). (T + n ≤ TO) ⊎ (TO + n ≤ T)) (sym (at-taps .is1)) (apart-runs t1 (clear .clear1));
-        clear2 = subst (λ (T : ℕ). (T + n ≤ TO) ⊎ (TO + n ≤ T)) (sym (at-taps .is2)) (apart-runs t2 (clear .clear2));
-        in0 = omega (arith, in-block, at-taps .is0, clear .in0);
-        in1 = omega (arith, in-block, at-taps .is1, clear .in1);
-        in2 = omega (arith, in-block, at-taps .is2, clear .in2);
-        in-to = omega (arith, in-block, at-taps .is-to, clear .in-to);
-      }
-
-  module _ (old mid : List ℕ) (key : ℕ → ℕ)
-      (s : Planes (In (lo + 1) (lo + n + 1)) (λ j X. blended old (pitchOf p) t0 t1 t2 key j (X - 1)) old mid (to - 1) (pitchOf p) past) where
-    -- what a tap reads is as it was
-    as-before :
-        (t T x : ℕ) → (t + blockOf p ≤ to + 1) ⊎ (to + blockOf p ≤ t + 1) → T ≡ t + lo + past * pitchOf p → x < n →
-        getD mid (T + x) 0 ≡ getD old (t + past * pitchOf p + (lo + x)) 0
-    as-before t T x o e l =
-        ap (λ (k : ℕ). getD mid k 0) (let h : T + x ≡ t + past * pitchOf p + (lo + x) = omega arith in h)
-        ∙ elim o [
-          | inl u ↦ s .apart .under (t + past * pitchOf p + (lo + x)) (omega (arith, in-block, clear .some))
-          | inr u ↦ s .apart .over (t + past * pitchOf p + (lo + x)) (omega (arith, in-block, clear .some))
+  module _ (old new : List ℕ) (apart : Apart old new (to - 1) (to - 1 + planes * pitch)) where
+    tap-same :
+        (t j y : ℕ) → (t + planes * pitch ≤ to + 1) ⊎ (to + planes * pitch ≤ t + 1) → j < planes → y + 3 ≤ pitch →
+        getD new (t + j * pitch + y) 0 ≡ getD old (t + j * pitch + y) 0
+    tap-same t j y o l n =
+        elim o [
+          | inl u ↦ apart .under (t + j * pitch + y) (omega (arith, in-block j l))
+          | inr u ↦ apart .over (t + j * pitch + y) (omega (arith, taps .some))
         ]
 
-    -- the greatest of the three is the layer of the plane
-    pub layer : (x : ℕ) → x < n → greatestAt mid T0 T1 T2 x ≡ layerAhead old (pitchOf p) t0 t1 t2 (suc past) (lo + x)
+    layer-same : (j y : ℕ) → j ≤ planes → y + 3 ≤ pitch → layerAhead new pitch t0 t1 t2 j y ≡ layerAhead old pitch t0 t1 t2 j y
     unfolding layerAhead
-    layer x l =
+    layer-same zero y l n = refl
+    layer-same (suc j) y l n =
         rw (
-          as-before t0 T0 x (clear .clear0) (at-taps .is0) l,
-          as-before t1 T1 x (clear .clear1) (at-taps .is1) l,
-          as-before t2 T2 x (clear .clear2) (at-taps .is2) l,
+          tap-same t0 j y (taps .clear0) (omega arith) n,
+          tap-same t1 j y (taps .clear1) (omega arith) n,
+          tap-same t2 j y (taps .clear2) (omega arith) n,
         )
 
-    -- a plane more, by a run that makes the right numbers
-    pub plane-more :
-        (g : ℕ → ℕ) (new : List ℕ) →
-        Between g mid new TO (TO + n) →
-        ((x : ℕ) → x < n → g (TO + x) ≡ max (min (key (lo + x)) (greatestAt mid T0 T1 T2 x)) (layerAhead old (pitchOf p) t0 t1 t2 past (lo + x))) →
-        Planes (In (lo + 1) (lo + n + 1)) (λ j X. blended old (pitchOf p) t0 t1 t2 key j (X - 1)) old new (to - 1) (pitchOf p) (past + 1)
-    plane-more g new b rule =
-        planes-more (In (lo + 1) (lo + n + 1)) _ old mid new (to - 1) (pitchOf p) past (λ X i. omega (arith, i)) s
-        (plane-run g (λ X. blended old (pitchOf p) t0 t1 t2 key past (X - 1)) mid new (to - 1) (past * pitchOf p) (pitchOf p)
-        (lo + 1) (lo + n + 1) TO (TO + n) b
-        (omega (arith, clear .some, at-taps .is-to)) (omega (arith, clear .some, at-taps .is-to)) (omega arith) here)
-      where
-        here : (X : ℕ) → lo + 1 ≤ X → X < lo + n + 1 → g (to - 1 + (past * pitchOf p + X)) ≡ blended old (pitchOf p) t0 t1 t2 key past (X - 1)
-        here X a b =
-            let x : ℕ = X - 1 - lo in
-            let e : to - 1 + (past * pitchOf p + X) ≡ TO + x = omega (arith, clear .some, at-taps .is-to) in
-            let d : lo + x ≡ X - 1 = omega arith in
-            ap g e ∙ rule x (omega arith)
-            ∙ ap (λ (v : ℕ). max (min (key (lo + x)) v) (layerAhead old (pitchOf p) t0 t1 t2 past (lo + x))) (layer x (omega arith))
-            ∙ ap (blended old (pitchOf p) t0 t1 t2 key past) d
+    blended-same :
+        (key : ℕ → ℕ) (j y : ℕ) → j < planes → y + 3 ≤ pitch → blended new pitch t0 t1 t2 key j y ≡ blended old pitch t0 t1 t2 key j y
+    blended-same key j y l n = rw (layer-same (suc j) y (omega arith) n, layer-same j y (omega arith) n)
 
-    -- and with what is kept of it
-    pub blending-more :
-        (g : ℕ → ℕ) (new under below : List ℕ) →
-        Between g mid new TO (TO + n) →
-        Between (λ k. greatestAt mid T0 T1 T2 k) under below 0 n →
-        ((x : ℕ) → x < n → g (TO + x) ≡ max (min (key (lo + x)) (greatestAt mid T0 T1 T2 x)) (layerAhead old (pitchOf p) t0 t1 t2 past (lo + x))) →
-        Blending old new below key p t0 t1 t2 to lo n (past + 1)
-    blending-more g new under below b u rule =
+    -- the greatest of the three, o further on, is the layer of a plane
+    pub layer-read :
+        (j x o i : ℕ) → o ≡ x + j * pitch → j < planes → x + i + 3 ≤ pitch →
+        greatestAt new t0 t1 t2 (o + i) ≡ layerAhead old pitch t0 t1 t2 (suc j) (x + i)
+    unfolding layerAhead
+    layer-read j x o i e l n =
+        rw (
+          at t0 ∙ tap-same t0 j (x + i) (taps .clear0) l n,
+          at t1 ∙ tap-same t1 j (x + i) (taps .clear1) l n,
+          at t2 ∙ tap-same t2 j (x + i) (taps .clear2) l n,
+        )
+      where
+        at : (t : ℕ) → getD new (t + (o + i)) 0 ≡ getD new (t + j * pitch + (x + i)) 0
+        at t = ap (λ (k : ℕ). getD new k 0) (let h : t + (o + i) ≡ t + j * pitch + (x + i) = omega arith in h)
+
+  -- ---- a plane more of eight pixels
+
+  module _ (x : ℕ) (room : x + 10 ≤ pitch) (key : ℕ → ℕ) (old mid new : List ℕ) where
+    pub plane-put :
+        (v : ℕ → ℕ) (past at : ℕ) → past < planes →
+        Planes (In (x + 1) (x + 9)) (λ j X. blended old pitch t0 t1 t2 key j (X - 1)) old mid (to - 1) pitch past →
+        Between (λ k. v (k - at)) mid new at (at + 8) → at ≡ to + (x + past * pitch) →
+        ((i : ℕ) → i < 8 → v i ≡ blended old pitch t0 t1 t2 key past (x + i)) →
+        Planes (In (x + 1) (x + 9)) (λ j X. blended old pitch t0 t1 t2 key j (X - 1)) old new (to - 1) pitch (past + 1)
+    plane-put v past at l s b e rule =
+        planes-more (In (x + 1) (x + 9)) _ old mid new (to - 1) pitch past (λ X p. omega (arith, p)) s
+        (plane-run _ (λ X. blended old pitch t0 t1 t2 key past (X - 1)) mid new (to - 1) (past * pitch) pitch (x + 1) (x + 9) at (at + 8) b
+        (omega (arith, taps .some)) (omega (arith, taps .some)) (omega arith) here)
+      where
+        here : (X : ℕ) → x + 1 ≤ X → X < x + 9 → v (to - 1 + (past * pitch + X) - at) ≡ blended old pitch t0 t1 t2 key past (X - 1)
+        here X p q =
+            let i : ℕ = X - 1 - x in
+            let d : to - 1 + (past * pitch + X) - at ≡ i = omega (arith, taps .some) in
+            let f : x + i ≡ X - 1 = omega arith in
+            ap v d ∙ rule i (omega arith) ∙ ap (blended old pitch t0 t1 t2 key past) f
+
+    -- ---- eight pixels more of all planes
+
+    pub columns-more :
+        (lo : ℕ) → lo ≤ x →
+        Planes (In (lo + 1) (x + 1)) (λ j X. blended old pitch t0 t1 t2 key j (X - 1)) old mid (to - 1) pitch planes →
+        Planes (In (x + 1) (x + 9)) (λ j X. blended mid pitch t0 t1 t2 key j (X - 1)) mid new (to - 1) pitch planes →
+        Planes (In (lo + 1) (x + 8 + 1)) (λ j X. blended old pitch t0 t1 t2 key j (X - 1)) old new (to - 1) pitch planes
+    columns-more lo o s t =
         record {
-          made = plane-more g new b rule;
-          kept = λ x l.
-              u .inside x (omega arith) l ∙ layer x l
-              ∙ ap (λ (k : ℕ). layerAhead old (pitchOf p) t0 t1 t2 k (lo + x)) (let e : suc past ≡ past + 1 = omega arith in e);
+          inside = λ j X l p.
+              elim (le-or-lt (x + 1) X) [
+                | inl k ↦ t .inside j X l (k, omega (arith, p)) ∙ blended-same old mid (s .apart) key j (X - 1) l (omega (arith, p))
+                | inr k ↦ t .outside j X (omega (arith, p)) (λ q. omega (arith, q)) ∙ s .inside j X l (p .0, k)
+              ];
+          outside = λ j X l n.
+              t .outside j X l (λ q. n (omega (arith, q), omega (arith, q))) ∙ s .outside j X l (λ q. n (q .0, omega (arith, q)));
+          apart = apart-then old mid new (to - 1) (to - 1 + planes * pitch) (s .apart) (t .apart);
         }
 
--- ---- by what the leaves make
+  -- ---- no pixel, and no plane
 
-module _ (p : Plan) (t0 t1 t2 to size lo n T0 T1 T2 TO : ℕ) (keys old : List ℕ) (row at : ℕ)
-    (clear : TapsOf p t0 t1 t2 to size)
-    (room : lo + n ≤ p .across + 7)
-    (is-at : at ≡ row + lo) where
-  abbrev Key : ℕ → ℕ
-  Key x = getD keys (row + x) 0
+  pub columns-none :
+      (f : ℕ → ℕ → ℕ) (old : List ℕ) (lo : ℕ) → Planes (In (lo + 1) (lo + 1)) f old old (to - 1) pitch planes
+  columns-none f old lo =
+      record {
+        inside = λ j X l p. absurd (omega (arith, p));
+        outside = λ j X l n. refl;
+        apart = record { under = λ k l. refl; over = λ k l. refl; len = refl };
+      }
 
-  key-at : (x : ℕ) → getD keys (at + (TO + x - TO)) 0 ≡ Key (lo + x)
-  key-at x = ap (λ (k : ℕ). getD keys k 0) (let e : at + (TO + x - TO) ≡ row + (lo + x) = omega arith in e)
+-- ---- numbers of one pixel
 
-  place : (x : ℕ) → TO + x - TO ≡ x
-  place x = omega arith
+pub layer-none : (held : List ℕ) (pitch t0 t1 t2 x : ℕ) → 0 ≡ layerAhead held pitch t0 t1 t2 0 x
+unfolding layerAhead
+layer-none held pitch t0 t1 t2 x = refl
 
-  -- the lowest plane, below which there are only zeros
-  pub blending-first :
-      (new under below : List ℕ) →
-      0 < p .planes →
-      TapsAt T0 T1 T2 TO t0 t1 t2 to lo (0 * pitchOf p) →
-      Between (λ k. min (getD keys (at + (k - TO)) 0) (greatestAt old T0 T1 T2 (k - TO))) old new TO (TO + n) →
-      Between (λ k. greatestAt old T0 T1 T2 k) under below 0 n →
-      Blending old new below Key p t0 t1 t2 to lo n 1
-  unfolding layerAhead
-  blending-first new under below l at-taps b u =
-      blending-more p t0 t1 t2 to size lo n 0 T0 T1 T2 TO clear room l at-taps old old Key (planes-none _ _ old (to - 1) (pitchOf p)) _ new under below b u
-      (λ x m. rw (key-at x, place x) (omega arith))
+-- the lowest plane, below which there is nothing
+pub blended-lowest :
+    (held : List ℕ) (pitch t0 t1 t2 : ℕ) (key : ℕ → ℕ) (x v k g : ℕ) →
+    v ≡ min k g → k ≡ key x → g ≡ layerAhead held pitch t0 t1 t2 1 x → v ≡ blended held pitch t0 t1 t2 key 0 x
+unfolding layerAhead
+blended-lowest held pitch t0 t1 t2 key x v k g ev ek eg = ev ∙ rw (ek, eg) (omega arith)
 
-  -- a higher plane
-  pub blending-next :
-      (mid new under below : List ℕ) (past : ℕ) →
-      past < p .planes →
-      TapsAt T0 T1 T2 TO t0 t1 t2 to lo (past * pitchOf p) →
-      Blending old mid under Key p t0 t1 t2 to lo n past →
-      Between (λ k. max (min (getD keys (at + (k - TO)) 0) (greatestAt mid T0 T1 T2 (k - TO))) (getD under (k - TO) 0)) mid new TO (TO + n) →
-      Between (λ k. greatestAt mid T0 T1 T2 k) under below 0 n →
-      Blending old new below Key p t0 t1 t2 to lo n (past + 1)
-  blending-next mid new under below past l at-taps s b u =
-      blending-more p t0 t1 t2 to size lo n past T0 T1 T2 TO clear room l at-taps old mid Key (s .made) _ new under below b u
-      (λ x m. rw (key-at x, place x, s .kept x m))
+-- a higher one
+pub blended-next :
+    (held : List ℕ) (pitch t0 t1 t2 : ℕ) (key : ℕ → ℕ) (j x v w k g b : ℕ) →
+    v ≡ max w b → w ≡ min k g → k ≡ key x → g ≡ layerAhead held pitch t0 t1 t2 (suc j) x → b ≡ layerAhead held pitch t0 t1 t2 j x →
+    v ≡ blended held pitch t0 t1 t2 key j x
+blended-next held pitch t0 t1 t2 key j x v w k g b ev ew ek eg eb = ev ∙ rw (ew, ek, eg, eb)
 
-pub blending-ends :
-    (old new below : List ℕ) (key : ℕ → ℕ) (p : Plan) (t0 t1 t2 to lo n past last : ℕ) →
-    Blending old new below key p t0 t1 t2 to lo n past → past ≡ last → Blending old new below key p t0 t1 t2 to lo n last
-blending-ends old new below key p t0 t1 t2 to lo n past last s e = subst (λ (m : ℕ). Blending old new below key p t0 t1 t2 to lo n m) e s
+-- ---- the only plane
+
+pub sole-made :
+    (keys old new : List ℕ) (at pitch t0 t1 t2 to size lo hi past : ℕ) →
+    BlendFits 1 pitch hi t0 t1 t2 to size →
+    past ≤ hi + 7 →
+    Between (λ k. min (getD keys (at + (k - to)) 0) (greatestAt old t0 t1 t2 (k - to))) old new (to + lo) (to + past) →
+    Planes (In (lo + 1) (past + 1)) (λ j X. blended old pitch t0 t1 t2 (λ y. getD keys (at + y) 0) j (X - 1)) old new (to - 1) pitch 1
+unfolding layerAhead
+sole-made keys old new at pitch t0 t1 t2 to size lo hi past f l b =
+    planes-more (In (lo + 1) (past + 1)) _ old old new (to - 1) pitch 0 (λ X p. omega (arith, p, f .room)) (planes-none _ _ old (to - 1) pitch)
+    (plane-run _ (λ X. blended old pitch t0 t1 t2 (λ y. getD keys (at + y) 0) 0 (X - 1)) old new (to - 1) (0 * pitch) pitch (lo + 1) (past + 1)
+    (to + lo) (to + past) b (omega (arith, f .taps .some)) (omega (arith, f .taps .some)) (omega (arith, f .room)) here)
+  where
+    here :
+        (X : ℕ) → lo + 1 ≤ X → X < past + 1 →
+        min (getD keys (at + (to - 1 + (0 * pitch + X) - to)) 0) (greatestAt old t0 t1 t2 (to - 1 + (0 * pitch + X) - to)) ≡
+        blended old pitch t0 t1 t2 (λ y. getD keys (at + y) 0) 0 (X - 1)
+    here X p q =
+        let y : ℕ = X - 1 in
+        let d : to - 1 + (0 * pitch + X) - to ≡ y = omega (arith, f .taps .some) in
+        let e0 : t0 + 0 * pitch ≡ t0 = omega arith in
+        let e1 : t1 + 0 * pitch ≡ t1 = omega arith in
+        let e2 : t2 + 0 * pitch ≡ t2 = omega arith in
+        rw (d, e0, e1, e2) (omega arith)
+
+-- ---- the row, by whichever way it was made
+
+pub row-made :
+    (old new : List ℕ) (key : ℕ → ℕ) (pitch t0 t1 t2 to lo hi past n planes : ℕ) →
+    Planes (In (lo + 1) (past + 1)) (λ j X. blended old pitch t0 t1 t2 key j (X - 1)) old new (to - 1) pitch n →
+    n ≡ planes →
+    hi ≤ past →
+    RowPut new (to - 1) planes pitch lo hi (blended old pitch t0 t1 t2 key) × Apart old new (to - 1) (to - 1 + planes * pitch)
+row-made old new key pitch t0 t1 t2 to lo hi past n planes s e l =
+    let t = planes-ends _ _ _ _ _ _ _ _ s e in (row-put (blended old pitch t0 t1 t2 key) old new (to - 1) planes pitch lo hi past t l, t .apart)

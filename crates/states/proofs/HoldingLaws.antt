@@ -231,7 +231,7 @@ module _ (p : Plan) (e m : ℕ) (s : Slots) (size : ℕ) (slotted : Slotted p s 
 
 -- the steps may be taken
 pub taps-fit : (p : Plan) (e m : ℕ) (s : Slots) (size t0 t1 t2 : ℕ) → Sound p → Slotted p s size → e < 65536 → m < rowsIn p e →
-    TapsAt p s t0 t1 t2 → TapsOf p t0 t1 t2 (s .now + 1) size
+    TapsAt p s t0 t1 t2 → TapsOf (blockOf p) t0 t1 t2 (s .now + 1) size
 taps-fit p e m s size t0 t1 t2 sound slotted he hm taps =
     let c0 = tap-clear p e m s size slotted _ _ (sound .first e m hm he) in
     let c1 = tap-clear p e m s size slotted _ _ (sound .second e m hm he) in

@@ -8,8 +8,10 @@ use native.Mathlib.Omega.{arith}
 use lib.ListN.{length, getD, set, length-set}
 use lib.Seq.{getD-set-same, getD-set-other}
 use Rattle.basics.proofs.Numbers.{le-or-lt, rows-fit}
-use Rattle.states.specs.Runs.{Between, Apart, turned, numbers}
-use Rattle.states.proofs.TurnedLaws.{numbers-length, numbers-set}
+use Rattle.eights.specs.Turned.{turned, numbers}
+use Rattle.eights.proofs.TurnedLaws.{numbers-length, numbers-set}
+use Rattle.states.specs.Runs.{Between, Apart}
+use Rattle.states.specs.Rows.{In, Planes}
 
 -- ---- lists that are alike but for a stretch
 
@@ -37,9 +39,6 @@ pub record Plane (P : ℕ → Type 0) (g : ℕ → ℕ) (old new : List ℕ) (sl
   pub apart : Apart old new (slot + base) (slot + (base + pitch))
 
 -- by a run
-abbrev pub In : ℕ → ℕ → ℕ → Type 0
-In lo hi X = (lo ≤ X) × (X < hi)
-
 pub plane-run :
     (f g : ℕ → ℕ) (old new : List ℕ) (slot base pitch lo hi low high : ℕ) →
     Between f old new low high →
@@ -114,11 +113,6 @@ turned-pair old slot base pitch a b p q w v e ep eq ab fits l =
     (plane-pair (numbers old) slot base pitch a b p q v ep eq ab fits (omega (arith, numbers-length old)))
 
 -- ---- the planes below `past`
-
-pub record Planes (P : ℕ → Type 0) (f : ℕ → ℕ → ℕ) (old new : List ℕ) (slot pitch past : ℕ) : Type 0 where
-  pub inside : (j X : ℕ) → j < past → P X → getD new (slot + (j * pitch + X)) 0 ≡ f j X
-  pub outside : (j X : ℕ) → X < pitch → (P X → ⊥) → getD new (slot + (j * pitch + X)) 0 ≡ getD old (slot + (j * pitch + X)) 0
-  pub apart : Apart old new slot (slot + past * pitch)
 
 pub planes-none : (P : ℕ → Type 0) (f : ℕ → ℕ → ℕ) (old : List ℕ) (slot pitch : ℕ) → Planes P f old old slot pitch 0
 planes-none P f old slot pitch =

@@ -11,11 +11,11 @@ use lib.ListN.{getD}
 use Rattle.basics.proofs.Numbers.{le-or-lt}
 use Rattle.states.specs.Runs.{Between}
 use Rattle.plans.specs.Plans.{pitchOf, blockOf, startsAt}
-use Rattle.states.specs.Rows.{gate, inRow, RowPut, RowHeld, RowStored, Started}
+use Rattle.states.specs.Rows.{gate, inRow, RowPut, RowHeld, RowStored, Started, In, Planes}
 use Rattle.plans.specs.declared.plan.Plan.{Plan}
 use Rattle.theory.specs.BestWalks.{alone}
 use Rattle.plans.proofs.PlanSizes.{plane-fits}
-use Rattle.states.proofs.PlaneLaws.{In, Either, Planes, planes-none, planes-more, plane-run, copied-more}
+use Rattle.states.proofs.PlaneLaws.{Either, planes-none, planes-more, plane-run, copied-more}
 
 -- ---- a row by its places
 

@@ -5,10 +5,12 @@ use mathlib.Core.Logic.{_⊎_, inl, inr, ⊎-elim}
 use mathlib.Core.List.{List}
 use native.Mathlib.Nat.{eq-or-lt-of-le}
 use native.Mathlib.Omega.{arith}
+use Rattle.basics.proofs.Numbers.{le-or-lt}
 use lib.ListN.{length, getD, set, length-set}
 use lib.Seq.{getD-set-same, getD-set-other}
-use Rattle.states.specs.Runs.{Between, TapsFit, greatestAt, turned, numbers}
-use Rattle.states.proofs.TurnedLaws.{numbers-length, numbers-set}
+use Rattle.eights.specs.Turned.{turned, numbers}
+use Rattle.states.specs.Runs.{Between, TapsFit, greatestAt}
+use Rattle.eights.proofs.TurnedLaws.{numbers-length, numbers-set}
 
 -- ---- one run
 
@@ -53,57 +55,61 @@ between-ends f old new lo hi n b e = subst (λ (m : ℕ). Between f old new lo m
 
 -- ---- runs that are read while another one is written
 
+-- the same run with the next eight places, where those are made right
+pub eights-more :
+    (f v : ℕ → ℕ) (old mid new : List ℕ) (lo hi at : ℕ) →
+    Between f old mid lo hi → lo ≤ hi → Between (λ k. v (k - at)) mid new at (at + 8) → at ≡ hi → ((i : ℕ) → i < 8 → v i ≡ f (at + i)) →
+    Between f old new lo (at + 8)
+eights-more f v old mid new lo hi at b o t e rule =
+    record {
+      inside = λ k l h.
+          elim (le-or-lt at k) [
+            | inl m ↦ t .inside k m h ∙ rule (k - at) (omega arith) ∙ ap f (let q : at + (k - at) ≡ k = omega arith in q)
+            | inr m ↦ t .under k m ∙ b .inside k l (omega arith)
+          ];
+      under = λ k h. t .under k (omega arith) ∙ b .under k h;
+      over = λ k h. t .over k h ∙ b .over k (omega arith);
+      len = t .len ∙ b .len;
+    }
+
 -- a place that a run apart from the written one has is as it was
 pub read-clear :
-    (f : ℕ → ℕ) (old new : List ℕ) (to hi t n x : ℕ) →
-    Between f old new to hi → hi ≤ to + n → (t + n ≤ to) ⊎ (to + n ≤ t) → x < n → getD new (t + x) 0 ≡ getD old (t + x) 0
-read-clear f old new to hi t n x b l o m =
+    (f : ℕ → ℕ) (old new : List ℕ) (lo hi to t n x : ℕ) →
+    Between f old new (to + lo) (to + hi) → hi ≤ n → (t + n ≤ to) ⊎ (to + n ≤ t) → x < n → getD new (t + x) 0 ≡ getD old (t + x) 0
+read-clear f old new lo hi to t n x b l o m =
     elim o [
       | inl u ↦ b .under (t + x) (omega arith)
       | inr u ↦ b .over (t + x) (omega arith)
     ]
 
 pub greatest-clear :
-    (f : ℕ → ℕ) (old new : List ℕ) (t0 t1 t2 to n size x : ℕ) →
-    Between f old new to (to + x) → TapsFit t0 t1 t2 to n size → x < n → greatestAt new t0 t1 t2 x ≡ greatestAt old t0 t1 t2 x
-greatest-clear f old new t0 t1 t2 to n size x b fit m =
+    (f : ℕ → ℕ) (old new : List ℕ) (t0 t1 t2 lo hi to n size x : ℕ) →
+    Between f old new (to + lo) (to + hi) → TapsFit t0 t1 t2 to n size → hi ≤ n → x < n → greatestAt new t0 t1 t2 x ≡ greatestAt old t0 t1 t2 x
+greatest-clear f old new t0 t1 t2 lo hi to n size x b fit l m =
     rw (
-      read-clear f old new to (to + x) t0 n x b (omega arith) (fit .clear0) m,
-      read-clear f old new to (to + x) t1 n x b (omega arith) (fit .clear1) m,
-      read-clear f old new to (to + x) t2 n x b (omega arith) (fit .clear2) m,
+      read-clear f old new lo hi to t0 n x b l (fit .clear0) m,
+      read-clear f old new lo hi to t1 n x b l (fit .clear1) m,
+      read-clear f old new lo hi to t2 n x b l (fit .clear2) m,
     )
 
--- a run of blends, each made of its place x and the greatest of the three, grows by one, and so does the run of the greatest; all are held turned
-module _ (old new : List ℕ) (t0 t1 t2 to n x m : ℕ) (fit : TapsFit t0 t1 t2 to n (length old)) (l : x < n) where
-  still : (f : ℕ → ℕ) → Between f (numbers old) (numbers new) to (to + x) → turned m ≡ greatestAt (numbers new) t0 t1 t2 x →
-      turned m ≡ greatestAt (numbers old) t0 t1 t2 x
-  still f b em = em ∙ greatest-clear f (numbers old) (numbers new) t0 t1 t2 to n (length old) x b fit l
-
-  pub blend-more :
-      (h : ℕ → ℕ → ℕ) (v : ℕ) →
-      Between (λ k. h (k - to) (greatestAt (numbers old) t0 t1 t2 (k - to))) (numbers old) (numbers new) to (to + x) →
-      turned m ≡ greatestAt (numbers new) t0 t1 t2 x →
-      turned v ≡ h x (turned m) →
-      Between (λ k. h (k - to) (greatestAt (numbers old) t0 t1 t2 (k - to))) (numbers old) (numbers (set new (to + x) v)) to (to + (x + 1))
-  blend-more h v b em ev =
-      let here : x ≡ to + x - to = omega arith in
-      numbers-more _ old new to (to + x) (to + (x + 1)) v b (omega arith) (omega (arith, fit .in-to))
-      (ev ∙ ap (h x) (still _ b em) ∙ ap (λ (i : ℕ). h i (greatestAt (numbers old) t0 t1 t2 i)) here)
-      (omega arith)
-
-  pub greatest-more :
-      (f : ℕ → ℕ) (under under′ : List ℕ) →
-      Between f (numbers old) (numbers new) to (to + x) →
-      Between (λ k. greatestAt (numbers old) t0 t1 t2 k) (numbers under) (numbers under′) 0 x →
-      n ≤ length under →
-      turned m ≡ greatestAt (numbers new) t0 t1 t2 x →
-      Between (λ k. greatestAt (numbers old) t0 t1 t2 k) (numbers under) (numbers (set under′ x m)) 0 (x + 1)
-  greatest-more f under under′ b u o em =
-      numbers-more _ under under′ 0 x (x + 1) m u (omega arith) (omega arith) (still f b em) refl
-
--- what the calls of a higher plane make
-pub next-of : (v w k g b b₀ : ℕ) → v ≡ max w b → w ≡ min k g → b ≡ b₀ → v ≡ max (min k g) b₀
-next-of v w k g b b₀ ev ew eb = ev ∙ rw (ew, eb)
+-- eight places more of the only plane's run
+pub sole-more :
+    (keys old mid new : List ℕ) (v : ℕ → ℕ) (row lo t0 t1 t2 to n size x : ℕ) →
+    Between (λ k. min (getD keys (row + (k - to)) 0) (greatestAt old t0 t1 t2 (k - to))) old mid (to + lo) (to + x) →
+    Between (λ k. v (k - (to + x))) mid new (to + x) (to + x + 8) →
+    TapsFit t0 t1 t2 to n size →
+    lo ≤ x →
+    x + 8 ≤ n →
+    ((i : ℕ) → i < 8 → v i ≡ min (getD keys (row + x + i) 0) (greatestAt mid t0 t1 t2 (x + i))) →
+    Between (λ k. min (getD keys (row + (k - to)) 0) (greatestAt old t0 t1 t2 (k - to))) old new (to + lo) (to + (x + 8))
+sole-more keys old mid new v row lo t0 t1 t2 to n size x b t fit o l rule =
+    between-ends _ _ _ _ _ _ (eights-more _ v old mid new (to + lo) (to + x) (to + x) b (omega arith) t refl here) (omega arith)
+  where
+    here : (i : ℕ) → i < 8 → v i ≡ min (getD keys (row + (to + x + i - to)) 0) (greatestAt old t0 t1 t2 (to + x + i - to))
+    here i m =
+        let d : to + x + i - to ≡ x + i = omega arith in
+        let e : row + x + i ≡ row + (x + i) = omega arith in
+        rule i m ∙ rw (d, e, greatest-clear _ old mid t0 t1 t2 lo x to n size (x + i) b fit (omega arith) (omega arith))
 
 -- a run that rises to two others grows by one
 pub fold-more :

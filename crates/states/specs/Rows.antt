@@ -43,6 +43,16 @@ abbrev pub blended : List ℕ → ℕ → ℕ → ℕ → ℕ → (ℕ → ℕ) 
 blended held pitch t0 t1 t2 key j x =
     max (min (key x) (layerAhead held pitch t0 t1 t2 (suc j) x)) (layerAhead held pitch t0 t1 t2 j x)
 
+-- the places from lo below hi
+abbrev pub In : ℕ → ℕ → ℕ → Type 0
+In lo hi X = (lo ≤ X) × (X < hi)
+
+-- in the planes below `past` of a slot, new is f at the places that are P; all else is as it was
+pub record Planes (P : ℕ → Type 0) (f : ℕ → ℕ → ℕ) (old new : List ℕ) (slot pitch past : ℕ) : Type 0 where
+  pub inside : (j X : ℕ) → j < past → P X → getD new (slot + (j * pitch + X)) 0 ≡ f j X
+  pub outside : (j X : ℕ) → X < pitch → (P X → ⊥) → getD new (slot + (j * pitch + X)) 0 ≡ getD old (slot + (j * pitch + X)) 0
+  pub apart : Apart old new slot (slot + past * pitch)
+
 -- best has risen to two rows joined: plane j of the one and, counted from the last, plane j of the other. A maximum is told by what it is not below,
 -- and by what it is not above.
 pub record RowJoined (old new : List ℕ) (at planes lo hi : ℕ) (f g : ℕ → ℕ → ℕ) : Type 0 where
@@ -73,13 +83,21 @@ pub record RowOf (p : Plan) (r : Row) : Type 0 where
 abbrev pub SlotOf : Plan → ℕ → ℕ → Type 0
 SlotOf p slot size = slot + blockOf p ≤ size
 
--- three held rows, up to two pixels on, and a slot apart from them for another one, whose pixel 0 is at `to`
-pub record TapsOf (p : Plan) (t0 t1 t2 to size : ℕ) : Type 0 where
-  pub clear0 : (t0 + blockOf p ≤ to + 1) ⊎ (to + blockOf p ≤ t0 + 1)
-  pub clear1 : (t1 + blockOf p ≤ to + 1) ⊎ (to + blockOf p ≤ t1 + 1)
-  pub clear2 : (t2 + blockOf p ≤ to + 1) ⊎ (to + blockOf p ≤ t2 + 1)
-  pub in0 : t0 + blockOf p ≤ size + 2
-  pub in1 : t1 + blockOf p ≤ size + 2
-  pub in2 : t2 + blockOf p ≤ size + 2
+-- three held rows of this length, up to two pixels on, and a slot apart from them for another one, whose pixel 0 is at `to`
+pub record TapsOf (block t0 t1 t2 to size : ℕ) : Type 0 where
+  pub clear0 : (t0 + block ≤ to + 1) ⊎ (to + block ≤ t0 + 1)
+  pub clear1 : (t1 + block ≤ to + 1) ⊎ (to + block ≤ t1 + 1)
+  pub clear2 : (t2 + block ≤ to + 1) ⊎ (to + block ≤ t2 + 1)
+  pub in0 : t0 + block ≤ size + 2
+  pub in1 : t1 + block ≤ size + 2
+  pub in2 : t2 + block ≤ size + 2
   pub some : 1 ≤ to
-  pub in-to : to + blockOf p ≤ size + 1
+  pub in-to : to + block ≤ size + 1
+
+-- eight pixels from x on can be made in all planes
+pub record BlendFits (planes pitch x t0 t1 t2 to size : ℕ) : Type 0 where
+  pub few : planes ≤ 9
+  pub narrow : pitch ≤ 1040
+  pub room : x + 10 ≤ pitch
+  pub taps : TapsOf (planes * pitch) t0 t1 t2 to size
+  pub small : size ≤ 40000

@@ -1,10 +1,8 @@
 -- What the loops do to a list of numbers. These definitions serve contracts inside the engine only: no public contract cites them.
-use Prim.Native.Nat.{ℕ, _+_, _-_, _≤_, _<_, max}
+use Prim.Native.Nat.{ℕ, _+_, _≤_, _<_, max}
 use mathlib.Core.Path.{_≡_}
-use mathlib.Core.Bool.{cond}
 use mathlib.Core.Logic.{_⊎_}
-use mathlib.Core.List.{List, map}
-use lib.Dec.{ltb}
+use mathlib.Core.List.{List}
 use lib.ListN.{length, getD}
 
 -- new is f k at the places k from lo below hi, and old elsewhere
@@ -19,14 +17,6 @@ pub record Apart (old new : List ℕ) (lo hi : ℕ) : Type 0 where
   pub under : (k : ℕ) → k < lo → getD new k 0 ≡ getD old k 0
   pub over : (k : ℕ) → hi ≤ k → getD new k 0 ≡ getD old k 0
   pub len : length new ≡ length old
-
--- a number of 16 bits with its highest bit turned: then numbers have the order of signed ones
-unfoldable pub turned : ℕ → ℕ
-turned v = cond (ltb v 32768) (v + 32768) (v - 32768)
-
--- the numbers that a list of turned ones stands for
-unfoldable pub numbers : List ℕ → List ℕ
-numbers words = map turned words
 
 -- the greatest of the numbers at three places, x further on
 abbrev pub greatestAt : List ℕ → ℕ → ℕ → ℕ → ℕ → ℕ

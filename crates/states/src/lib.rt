@@ -7,11 +7,12 @@
 //     new_j(x) = max( min( key(x), M_j(x) ), M_{j-1}(x) )      M_{-1} = 0
 //     M_j(x)   = the greatest of three numbers of plane j in the rows beside
 //
-// The leaves (runs.rt) are one loop each, over slices and with no branch on the numbers, so that they are
-// compiled to vector instructions. Rows are made among held ones (rows.rt), each with a zero before and
-// after it, so that no edge is a case of its own. States are made of the one before, several at once, row
-// after row (state.rt), where the numbers that are handed in fit (doors.rt). The crate knows no plate: its
-// contracts speak of any numbers that obey the recursion.
+// Rows are made eight pixels at a time (blends.rt) and come in and go out by runs (runs.rt): one loop each,
+// with no branch on the numbers, so that they are compiled to vector instructions. They are made among held
+// ones (rows.rt), each with a zero before and after it, so that no edge is a case of its own. States are made
+// of the one before, several at once, row after row (state.rt), where the numbers that are handed in fit
+// (doors.rt). The crate knows no plate: its contracts speak of any numbers that obey the recursion.
+mod blends;
 mod doors;
 mod rows;
 mod runs;

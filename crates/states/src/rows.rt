@@ -1,21 +1,20 @@
 // One row, with all its planes: held, made of held ones, put into a state, joined with one of another
 // state. A held row has pixel x at x + 1 of each plane, and a zero before and after its pixels; its numbers
 // are turned (runs.rt).
-ghost use mathlib.Core.Path.{_≡_};
 ghost use Prim.Native.Nat.{ℕ, _+_, _-_, _*_, _≤_, _<_};
 ghost use lib.ListN.{length, getD};
-ghost use Rattle.states.specs.Runs.{Apart, numbers};
+ghost use Rattle.eights.specs.Turned.{numbers};
+ghost use Rattle.states.specs.Runs.{Apart};
 ghost use Rattle.plans.specs.Plans.{pitchOf, blockOf, rowSize, startsAt};
 ghost use Rattle.states.specs.Rows.{gate, RowPut, RowHeld, RowStored, RowJoined, RowOf, SlotOf, TapsOf, Started, blended};
 ghost use Rattle.theory.specs.BestWalks.{alone};
-use crate::runs::NOTHING;
-use crate::runs::Taps;
-use crate::runs::blend_first;
-use crate::runs::blend_next;
+use crate::blends::Taps;
+use crate::blends::blend_planes;
 use crate::runs::fill_run;
 use crate::runs::fold_run;
 use crate::runs::raise_run;
 use crate::runs::turn_run;
+use eights::NOTHING;
 use plans::MARGIN;
 use plans::Plan;
 use plans::Row;
@@ -129,46 +128,14 @@ pub(crate) fn start_row(held: &mut [u16], slot: usize, keys: &[u16], plan: Plan,
     start_run(held, slot, keys, row.at, plan, row.lo, row.hi);
 }
 
-// How many numbers of a row are made at once: all, and up to seven more, so that they are whole vectors.
-fn run_of(row: Row, room: usize) -> usize
-    requires { ⌜ (row .lo ≤ row .hi) × (row .hi ≤ 1024) × (row .hi - row .lo ≤ room) ⌝ }
-    ensures { λ r. ⌜ (row .hi ≤ row .lo + r) × (r ≤ room) × (row .lo + r ≤ row .hi + 7) ⌝ }
-{
-    let n = (row.hi - row.lo + 7) / 8 * 8;
-    if n > room { room } else { n }
-}
-
-// The taps of a run at the next plane.
-fn higher(taps: Taps, pitch: usize) -> Taps
-    requires { ⌜ (taps .t0 < 65536) × (taps .t1 < 65536) × (taps .t2 < 65536) × (taps .to < 65536) × (pitch < 65536) ⌝ }
-    ensures { λ r. ⌜ (r .t0 ≡ taps .t0 + pitch) × (r .t1 ≡ taps .t1 + pitch) × (r .t2 ≡ taps .t2 + pitch) × (r .to ≡ taps .to + pitch) ⌝ }
-{
-    Taps {
-        t0: taps.t0 + pitch,
-        t1: taps.t1 + pitch,
-        t2: taps.t2 + pitch,
-        to: taps.to + pitch,
-    }
-}
-
 // A row made of held ones: `taps` are where pixel 0 of plane 0 finds its three numbers, and where it is.
 pub(crate) fn blend_row(held: &mut [u16], keys: &[u16], plan: Plan, row: Row, taps: Taps)
-    requires { ⌜ (RowOf plan row) × (TapsOf plan (taps .t0) (taps .t1) (taps .t2) (taps .to) (length (now held))) ⌝ }
+    requires { ⌜ (RowOf plan row) × (TapsOf (blockOf plan) (taps .t0) (taps .t1) (taps .t2) (taps .to) (length (now held))) ⌝ }
     requires { ⌜ (row .at + plan .across ≤ length (now keys)) × (length (now held) ≤ 40000) ⌝ }
     ensures { λ _. ⌜ RowHeld (numbers (now (held .exit))) (taps .to - 1) (plan .planes) (pitchOf plan) (row .lo) (row .hi) (blended (numbers (now (held .entry))) (pitchOf plan) (taps .t0) (taps .t1) (taps .t2) (λ (x : ℕ). getD (now (keys .entry)) (row .at + x) 0)) ⌝ }
     ensures { λ _. ⌜ Apart (numbers (now (held .entry))) (numbers (now (held .exit))) (taps .to - 1) (taps .to - 1 + blockOf plan) ⌝ }
 {
-    let at = row.at + row.lo;
-    let n = run_of(row, keys.len() - at);
-    let mut run = higher(taps, row.lo);
-    let mut below = [0u16; 1032];
-    blend_first(held, &mut below, keys, at, run, n);
-    let mut j = 1;
-    while j < plan.planes {
-        run = higher(run, plan.across + MARGIN);
-        blend_next(held, &mut below, keys, at, run, n);
-        j += 1;
-    }
+    blend_planes(held, keys, row, taps, plan.across + MARGIN, plan.planes);
     guard(held, taps.to - 1, plan, row);
 }
 

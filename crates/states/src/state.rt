@@ -3,22 +3,22 @@
 // number (`now`), so that of all these states only the last is stored. A row of one state by itself is made
 // straight away: the function for several would be a call more for each, and a copy of the plan.
 ghost use mathlib.Core.Path.{_≡_};
-ghost use mathlib.Core.Bool.{false};
 ghost use mathlib.Core.Logic.{_⊎_};
 ghost use Prim.Native.Nat.{_+_, _-_, _*_, _≤_, _<_};
 ghost use lib.ListN.{length};
-ghost use Rattle.states.specs.Runs.{Apart, numbers};
+ghost use Rattle.eights.specs.Turned.{numbers};
+ghost use Rattle.states.specs.Runs.{Apart};
 ghost use Rattle.plans.specs.Plans.{Sound, rowsIn, rowLo, rowHi, rowAt, stateSize, keysSize, blockOf, halfOf, halfWith, starts};
 ghost use Rattle.states.specs.States.{Advanced, Joined, furtherIn};
 ghost use Rattle.states.specs.Holding.{Slotted, Halves, MadeRow, NextRows, LastRow, tapOf};
+use crate::blends::Taps;
 use crate::rows::blend_row;
 use crate::rows::join_row;
 use crate::rows::load_row;
 use crate::rows::start_row;
 use crate::rows::store_row;
-use crate::runs::NOTHING;
-use crate::runs::Taps;
 use crate::runs::fill_run;
+use eights::NOTHING;
 use plans::MARGIN;
 use plans::Plan;
 use plans::Row;

@@ -7,9 +7,10 @@ use native.Mathlib.Omega.{arith}
 use lib.ListN.{length, set, length-set}
 use Rattle.plans.specs.Plans.{pitchOf}
 use Rattle.plans.proofs.PlanSizes.{plane-fits}
-use Rattle.states.specs.Runs.{numbers}
-use Rattle.states.proofs.TurnedLaws.{turned-high}
-use Rattle.states.proofs.PlaneLaws.{Either, Planes, planes-none, planes-more, planes-ends, turned-pair}
+use Rattle.eights.specs.Turned.{numbers}
+use Rattle.eights.proofs.TurnedLaws.{turned-high}
+use Rattle.states.specs.Rows.{Planes}
+use Rattle.states.proofs.PlaneLaws.{Either, planes-none, planes-more, planes-ends, turned-pair}
 use Rattle.states.proofs.RowLaws.{guarded}
 use Rattle.states.proofs.rows.guard.Statement.{statement}
 use Rattle.states.proofs.rows.guard.Tie as tie

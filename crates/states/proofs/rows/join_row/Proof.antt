@@ -3,7 +3,7 @@ use Prim.Native.Nat.{_-_}
 use mathlib.Core.Path.{refl}
 use native.Mathlib.Omega.{arith}
 use Rattle.plans.specs.Plans.{pitchOf}
-use Rattle.states.specs.Runs.{numbers}
+use Rattle.eights.specs.Turned.{numbers}
 use Rattle.plans.proofs.PlanSizes.{plane-fits}
 use Rattle.states.proofs.JoinLaws.{Joining, joining-none, joining-more, turn-left, turn-fits, some-across, row-joined}
 use Rattle.states.proofs.rows.join_row.Statement.{statement}

@@ -6,8 +6,9 @@ use native.Mathlib.Omega.{arith}
 use lib.ListN.{length, getD}
 use Rattle.plans.specs.Plans.{pitchOf}
 use Rattle.plans.proofs.PlanSizes.{part-fits, plane-fits}
-use Rattle.states.specs.Runs.{numbers}
-use Rattle.states.proofs.PlaneLaws.{In, Planes, planes-none, planes-ends, copied-more, apart-then}
+use Rattle.eights.specs.Turned.{numbers}
+use Rattle.states.specs.Rows.{In, Planes}
+use Rattle.states.proofs.PlaneLaws.{planes-none, planes-ends, copied-more, apart-then}
 use Rattle.states.proofs.RowLaws.{row-put}
 use Rattle.states.proofs.rows.load_row.Statement.{statement}
 use Rattle.states.proofs.rows.load_row.Tie as tie

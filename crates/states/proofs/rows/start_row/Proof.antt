@@ -4,8 +4,10 @@ use mathlib.Core.Logic.{inl, inr}
 use native.Mathlib.Omega.{arith}
 use Prim.Native.Nat.{ℕ, _+_}
 use Rattle.plans.specs.Plans.{blockOf}
-use Rattle.states.specs.Runs.{Between, numbers}
-use Rattle.states.proofs.TurnedLaws.{turned-high, numbers-filled}
+use Rattle.eights.specs.Turned.{numbers}
+use Rattle.states.specs.Runs.{Between}
+use Rattle.eights.proofs.TurnedLaws.{turned-high}
+use Rattle.states.proofs.TurnedLaws.{numbers-filled}
 use Rattle.states.proofs.PlaneLaws.{apart-run, apart-then}
 use Rattle.states.proofs.RowLaws.{zeros-held, started-held, starts-not-in, starts-not-at, starts-at, starts-anywhere}
 use Rattle.states.proofs.rows.start_row.Statement.{statement}

@@ -7,7 +7,7 @@ use native.Mathlib.Nat.{add-mul}
 use native.Mathlib.Omega.{arith}
 use lib.ListN.{getD, length}
 use Rattle.plans.specs.Plans.{pitchOf}
-use Rattle.states.specs.Runs.{numbers}
+use Rattle.eights.specs.Turned.{numbers}
 use Rattle.plans.proofs.PlanSizes.{plane-fits}
 use Rattle.states.proofs.PlaneLaws.{planes-ends}
 use Rattle.states.proofs.RowLaws.{StartedBelow, started-first, started-later, row-started}

@@ -3,8 +3,9 @@ use Prim.Native.Nat.{ℕ, _+_, _-_, _≤_, min, max}
 use mathlib.Core.Path.{sym, ap, _∙_}
 use native.Mathlib.Omega.{arith}
 use lib.ListN.{getD}
-use Rattle.states.specs.Runs.{Between, numbers}
-use Rattle.states.proofs.TurnedLaws.{numbers-at}
+use Rattle.eights.specs.Turned.{numbers}
+use Rattle.states.specs.Runs.{Between}
+use Rattle.eights.proofs.TurnedLaws.{numbers-at}
 use Rattle.states.proofs.RunLaws.{between-none, between-ends, fold-more}
 use Rattle.states.proofs.runs.fold_run.Statement.{statement}
 use Rattle.states.proofs.runs.fold_run.Tie as tie

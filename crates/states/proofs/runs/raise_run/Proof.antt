@@ -3,7 +3,8 @@ use Prim.Native.Nat.{ℕ, _+_, _-_, _≤_, max}
 use mathlib.Core.Path.{_≡_, refl, ap, _∙_}
 use native.Mathlib.Omega.{arith}
 use lib.ListN.{length, getD, length-set}
-use Rattle.states.specs.Runs.{Between, numbers}
+use Rattle.eights.specs.Turned.{numbers}
+use Rattle.states.specs.Runs.{Between}
 use Rattle.states.proofs.RunLaws.{between-none, numbers-more, between-ends}
 use Rattle.states.proofs.runs.raise_run.Statement.{statement}
 use Rattle.states.proofs.runs.raise_run.Tie as tie

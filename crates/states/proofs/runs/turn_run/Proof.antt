@@ -3,8 +3,9 @@ use Prim.Native.Nat.{ℕ, _+_, _-_, _≤_}
 use mathlib.Core.Path.{_≡_, refl, sym, ap, _∙_}
 use native.Mathlib.Omega.{arith}
 use lib.ListN.{length, getD, length-set}
-use Rattle.states.specs.Runs.{Between, numbers}
-use Rattle.states.proofs.TurnedLaws.{numbers-at}
+use Rattle.eights.specs.Turned.{numbers}
+use Rattle.states.specs.Runs.{Between}
+use Rattle.eights.proofs.TurnedLaws.{numbers-at}
 use Rattle.states.proofs.RunLaws.{between-none, between-more, numbers-more, between-ends}
 use Rattle.states.proofs.runs.turn_run.Statement.{statement}
 use Rattle.states.proofs.runs.turn_run.Tie as tie

@@ -6,7 +6,8 @@ use native.Mathlib.Omega.{arith}
 use borrow.Author.Needs.{needs}
 use borrow.Author.Tests.{not-true, not-false}
 use Rattle.plans.specs.Plans.{blockOf, halfOf}
-use Rattle.states.proofs.TurnedLaws.{turned-high, numbers-filled}
+use Rattle.eights.proofs.TurnedLaws.{turned-high}
+use Rattle.states.proofs.TurnedLaws.{numbers-filled}
 use Rattle.states.proofs.SizeLaws.{block-small, row-small, row-before, row-within, row-fits, half-linked}
 use Rattle.states.proofs.PlaneLaws.{apart-none, apart-run}
 use Rattle.states.proofs.HoldingLaws.{last-none, last-some, last-unlinked, apart-of}

@@ -8,10 +8,11 @@ use borrow.Author.Needs.{needs}
 use lib.ListN.{length}
 use Rattle.basics.proofs.Numbers.{rows-fit}
 use Rattle.plans.specs.Plans.{rowsIn, rowSize}
-use Rattle.states.specs.Runs.{numbers}
+use Rattle.eights.specs.Turned.{numbers}
 use Rattle.states.specs.Holding.{Halves, NextRows}
 use Rattle.states.specs.States.{furtherIn}
-use Rattle.states.proofs.TurnedLaws.{turned-high, same-many, numbers-filled}
+use Rattle.eights.proofs.TurnedLaws.{turned-high}
+use Rattle.states.proofs.TurnedLaws.{same-many, numbers-filled}
 use Rattle.states.proofs.SizeLaws.{block-small, row-small, row-back, row-fits, row-keyed, row-earlier, half-room}
 use Rattle.states.proofs.StretchLaws.{halves-room, last-room, slotted-at, rows-one, rows-same, Turn, turn}
 use Rattle.states.proofs.StateLaws.{halves-first, halves-same, halves-swapped, kept-all, Making, making-none, making-more, making-swapped}

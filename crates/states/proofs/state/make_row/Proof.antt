@@ -6,7 +6,7 @@ use native.Mathlib.Omega.{arith}
 use borrow.Author.Needs.{needs}
 use lib.ListN.{length}
 use Rattle.states.specs.Rows.{RowOf}
-use Rattle.states.proofs.TurnedLaws.{numbers-length}
+use Rattle.eights.proofs.TurnedLaws.{numbers-length}
 use Rattle.states.proofs.SizeLaws.{half-room, row-fits, row-keyed}
 use Rattle.states.proofs.HoldingLaws.{TapsAt, slotted-same, slots-within, taps-fit, made-started, made-blended}
 use Rattle.states.proofs.state.make_row.Statement.{statement}

@@ -8,11 +8,12 @@ use native.Mathlib.Omega.{arith}
 use borrow.Author.Needs.{needs}
 use lib.ListN.{length}
 use Rattle.plans.specs.Plans.{rowsIn, rowSize}
-use Rattle.states.specs.Runs.{numbers}
+use Rattle.eights.specs.Turned.{numbers}
 use Rattle.states.specs.Holding.{Halves, NextRows}
 use Rattle.states.specs.States.{furtherIn}
 use Rattle.plans.proofs.PlanSizes.{rows-few}
-use Rattle.states.proofs.TurnedLaws.{turned-high, same-many, numbers-filled}
+use Rattle.eights.proofs.TurnedLaws.{turned-high}
+use Rattle.states.proofs.TurnedLaws.{same-many, numbers-filled}
 use Rattle.states.proofs.SizeLaws.{block-small, row-small, row-fits, row-earlier, row-within, half-room}
 use Rattle.states.proofs.StretchLaws.{halves-room, last-room, slotted-at, rows-one, rows-same, Turn, turn}
 use Rattle.states.proofs.StateLaws.{halves-first, halves-same, halves-swapped, kept-apart, Making, making-none, making-more, making-swapped}

@@ -4,7 +4,7 @@ use mathlib.Core.Path.{_≡_, refl, ap, _∙_, subst, sym}
 use native.Mathlib.Omega.{arith}
 use lib.ListN.{length}
 use Rattle.plans.specs.Plans.{rowsIn, blockOf, halfOf}
-use Rattle.states.specs.Runs.{numbers}
+use Rattle.eights.specs.Turned.{numbers}
 use Rattle.states.specs.Holding.{Slotted}
 use Rattle.states.specs.States.{furtherIn}
 use Rattle.states.specs.declared.state.Slots.{Slots}

@@ -3,9 +3,9 @@ use Prim.Native.Nat.{_+_, _-_}
 use mathlib.Core.Path.{sym, _∙_}
 use native.Mathlib.Omega.{arith}
 use borrow.Author.Needs.{needs}
-use Rattle.states.proofs.TurnedLaws.{turned-low, turned-high}
-use Rattle.states.proofs.runs.turn.Statement.{statement}
-use Rattle.states.proofs.runs.turn.Tie as tie
+use Rattle.eights.proofs.TurnedLaws.{turned-low, turned-high}
+use Rattle.eights.proofs.turn.Statement.{statement}
+use Rattle.eights.proofs.turn.Tie as tie
 
 add-result : tie.Need-add-result
 add-result c = search needs

@@ -1,0 +1,2 @@
+pub mod TurnedLaws
+pub mod EightLaws
