@@ -8,7 +8,7 @@ use native.Mathlib.Omega.{arith}
 use lib.ListN.{getD}
 use Rattle.basics.proofs.Numbers.{le-or-lt, rows-fit}
 use Rattle.states.specs.Runs.{Between, Apart, TapsFit, greatestAt}
-use Rattle.states.specs.Rows.{In, Planes, RowPut, TapsOf, BlendFits, layerAhead, blended}
+use Rattle.states.specs.Rows.{In, RowPut, TapsOf, BlendFits, Blent, layerAhead, blended}
 use Rattle.states.proofs.PlaneLaws.{apart-then, plane-run, planes-none, planes-more, planes-ends}
 use Rattle.states.proofs.RowLaws.{row-put}
 
@@ -87,16 +87,16 @@ module _ (planes pitch t0 t1 t2 to size : ℕ) (taps : TapsOf (planes * pitch) t
   module _ (x : ℕ) (room : x + 10 ≤ pitch) (key : ℕ → ℕ) (old mid new : List ℕ) where
     pub plane-put :
         (v : ℕ → ℕ) (past at : ℕ) → past < planes →
-        Planes (In (x + 1) (x + 9)) (λ j X. blended old pitch t0 t1 t2 key j (X - 1)) old mid (to - 1) pitch past →
+        Blent old mid key past pitch t0 t1 t2 to x (x + 8) →
         Between (λ k. v (k - at)) mid new at (at + 8) → at ≡ to + (x + past * pitch) →
         ((i : ℕ) → i < 8 → v i ≡ blended old pitch t0 t1 t2 key past (x + i)) →
-        Planes (In (x + 1) (x + 9)) (λ j X. blended old pitch t0 t1 t2 key j (X - 1)) old new (to - 1) pitch (past + 1)
+        Blent old new key (past + 1) pitch t0 t1 t2 to x (x + 8)
     plane-put v past at l s b e rule =
-        planes-more (In (x + 1) (x + 9)) _ old mid new (to - 1) pitch past (λ X p. omega (arith, p)) s
-        (plane-run _ (λ X. blended old pitch t0 t1 t2 key past (X - 1)) mid new (to - 1) (past * pitch) pitch (x + 1) (x + 9) at (at + 8) b
+        planes-more (In (x + 1) (x + 8 + 1)) _ old mid new (to - 1) pitch past (λ X p. omega (arith, p)) s
+        (plane-run _ (λ X. blended old pitch t0 t1 t2 key past (X - 1)) mid new (to - 1) (past * pitch) pitch (x + 1) (x + 8 + 1) at (at + 8) b
         (omega (arith, taps .some)) (omega (arith, taps .some)) (omega arith) here)
       where
-        here : (X : ℕ) → x + 1 ≤ X → X < x + 9 → v (to - 1 + (past * pitch + X) - at) ≡ blended old pitch t0 t1 t2 key past (X - 1)
+        here : (X : ℕ) → x + 1 ≤ X → X < x + 8 + 1 → v (to - 1 + (past * pitch + X) - at) ≡ blended old pitch t0 t1 t2 key past (X - 1)
         here X p q =
             let i : ℕ = X - 1 - x in
             let d : to - 1 + (past * pitch + X) - at ≡ i = omega (arith, taps .some) in
@@ -107,9 +107,9 @@ module _ (planes pitch t0 t1 t2 to size : ℕ) (taps : TapsOf (planes * pitch) t
 
     pub columns-more :
         (lo : ℕ) → lo ≤ x →
-        Planes (In (lo + 1) (x + 1)) (λ j X. blended old pitch t0 t1 t2 key j (X - 1)) old mid (to - 1) pitch planes →
-        Planes (In (x + 1) (x + 9)) (λ j X. blended mid pitch t0 t1 t2 key j (X - 1)) mid new (to - 1) pitch planes →
-        Planes (In (lo + 1) (x + 8 + 1)) (λ j X. blended old pitch t0 t1 t2 key j (X - 1)) old new (to - 1) pitch planes
+        Blent old mid key planes pitch t0 t1 t2 to lo x →
+        Blent mid new key planes pitch t0 t1 t2 to x (x + 8) →
+        Blent old new key planes pitch t0 t1 t2 to lo (x + 8)
     columns-more lo o s t =
         record {
           inside = λ j X l p.
@@ -124,9 +124,8 @@ module _ (planes pitch t0 t1 t2 to size : ℕ) (taps : TapsOf (planes * pitch) t
 
   -- ---- no pixel, and no plane
 
-  pub columns-none :
-      (f : ℕ → ℕ → ℕ) (old : List ℕ) (lo : ℕ) → Planes (In (lo + 1) (lo + 1)) f old old (to - 1) pitch planes
-  columns-none f old lo =
+  pub columns-none : (key : ℕ → ℕ) (old : List ℕ) (lo : ℕ) → Blent old old key planes pitch t0 t1 t2 to lo lo
+  columns-none key old lo =
       record {
         inside = λ j X l p. absurd (omega (arith, p));
         outside = λ j X l n. refl;
@@ -160,7 +159,7 @@ pub sole-made :
     BlendFits 1 pitch hi t0 t1 t2 to size →
     past ≤ hi + 7 →
     Between (λ k. min (getD keys (at + (k - to)) 0) (greatestAt old t0 t1 t2 (k - to))) old new (to + lo) (to + past) →
-    Planes (In (lo + 1) (past + 1)) (λ j X. blended old pitch t0 t1 t2 (λ y. getD keys (at + y) 0) j (X - 1)) old new (to - 1) pitch 1
+    Blent old new (λ y. getD keys (at + y) 0) 1 pitch t0 t1 t2 to lo past
 unfolding layerAhead
 sole-made keys old new at pitch t0 t1 t2 to size lo hi past f l b =
     planes-more (In (lo + 1) (past + 1)) _ old old new (to - 1) pitch 0 (λ X p. omega (arith, p, f .room)) (planes-none _ _ old (to - 1) pitch)
@@ -183,7 +182,7 @@ sole-made keys old new at pitch t0 t1 t2 to size lo hi past f l b =
 
 pub row-made :
     (old new : List ℕ) (key : ℕ → ℕ) (pitch t0 t1 t2 to lo hi past n planes : ℕ) →
-    Planes (In (lo + 1) (past + 1)) (λ j X. blended old pitch t0 t1 t2 key j (X - 1)) old new (to - 1) pitch n →
+    Blent old new key n pitch t0 t1 t2 to lo past →
     n ≡ planes →
     hi ≤ past →
     RowPut new (to - 1) planes pitch lo hi (blended old pitch t0 t1 t2 key) × Apart old new (to - 1) (to - 1 + planes * pitch)

@@ -53,6 +53,11 @@ pub record Planes (P : ℕ → Type 0) (f : ℕ → ℕ → ℕ) (old new : List
   pub outside : (j X : ℕ) → X < pitch → (P X → ⊥) → getD new (slot + (j * pitch + X)) 0 ≡ getD old (slot + (j * pitch + X)) 0
   pub apart : Apart old new slot (slot + past * pitch)
 
+-- the pixels from lo below hi of a row that is made of held ones stand in all its planes, by these keys
+abbrev pub Blent : List ℕ → List ℕ → (ℕ → ℕ) → ℕ → ℕ → ℕ → ℕ → ℕ → ℕ → ℕ → ℕ → Type 0
+Blent old new key planes pitch t0 t1 t2 to lo hi =
+    Planes (In (lo + 1) (hi + 1)) (λ (j X : ℕ). blended old pitch t0 t1 t2 key j (X - 1)) old new (to - 1) pitch planes
+
 -- best has risen to two rows joined: plane j of the one and, counted from the last, plane j of the other. A maximum is told by what it is not below,
 -- and by what it is not above.
 pub record RowJoined (old new : List ℕ) (at planes lo hi : ℕ) (f g : ℕ → ℕ → ℕ) : Type 0 where

@@ -6,7 +6,7 @@ ghost use Prim.Native.Nat.{ℕ, _+_, _-_, _*_, _≤_, _<_, min};
 ghost use lib.ListN.{length, getD};
 ghost use Rattle.eights.specs.Turned.{turned, numbers, Standing};
 ghost use Rattle.states.specs.Runs.{Between, Apart, TapsFit, greatestAt};
-ghost use Rattle.states.specs.Rows.{In, Planes, RowPut, BlendFits, blended};
+ghost use Rattle.states.specs.Rows.{RowPut, BlendFits, Blent, blended};
 use eights::NOTHING;
 use eights::greater;
 use eights::lower;
@@ -79,7 +79,7 @@ fn greatest_at(held: &[u16], taps: Taps, x: usize) -> [u16; 8]
 // Eight pixels of a row that has three planes.
 fn blend_three(held: &mut [u16], key: [u16; 8], taps: Taps, x: usize, pitch: usize)
     requires { ⌜ BlendFits 3 pitch x (taps .t0) (taps .t1) (taps .t2) (taps .to) (length (now held)) ⌝ }
-    ensures { λ _. ⌜ ((keys : ℕ → ℕ) → ((i : ℕ) → i < 8 → turned (getD key i 0) ≡ keys (x + i)) → Planes (In (x + 1) (x + 9)) (λ (j X : ℕ). blended (numbers (now (held .entry))) pitch (taps .t0) (taps .t1) (taps .t2) keys j (X - 1)) (numbers (now (held .entry))) (numbers (now (held .exit))) (taps .to - 1) pitch 3) ⌝ }
+    ensures { λ _. ⌜ ((keys : ℕ → ℕ) → ((i : ℕ) → i < 8 → turned (getD key i 0) ≡ keys (x + i)) → Blent (numbers (now (held .entry))) (numbers (now (held .exit))) keys 3 pitch (taps .t0) (taps .t1) (taps .t2) (taps .to) x (x + 8)) ⌝ }
 {
     let a = greatest_at(held, taps, x);
     let b = greatest_at(held, taps, x + pitch);
@@ -92,7 +92,7 @@ fn blend_three(held: &mut [u16], key: [u16; 8], taps: Taps, x: usize, pitch: usi
 // Eight pixels of a row that has any number of planes.
 fn blend_several(held: &mut [u16], key: [u16; 8], taps: Taps, x: usize, pitch: usize, planes: usize)
     requires { ⌜ BlendFits planes pitch x (taps .t0) (taps .t1) (taps .t2) (taps .to) (length (now held)) ⌝ }
-    ensures { λ _. ⌜ ((keys : ℕ → ℕ) → ((i : ℕ) → i < 8 → turned (getD key i 0) ≡ keys (x + i)) → Planes (In (x + 1) (x + 9)) (λ (j X : ℕ). blended (numbers (now (held .entry))) pitch (taps .t0) (taps .t1) (taps .t2) keys j (X - 1)) (numbers (now (held .entry))) (numbers (now (held .exit))) (taps .to - 1) pitch planes) ⌝ }
+    ensures { λ _. ⌜ ((keys : ℕ → ℕ) → ((i : ℕ) → i < 8 → turned (getD key i 0) ≡ keys (x + i)) → Blent (numbers (now (held .entry))) (numbers (now (held .exit))) keys planes pitch (taps .t0) (taps .t1) (taps .t2) (taps .to) x (x + 8)) ⌝ }
 {
     let mut below = [NOTHING; 8];
     let mut j = 0;
@@ -125,7 +125,7 @@ fn sole_run(held: &mut [u16], keys: &[u16], row: Row, taps: Taps) -> usize
 fn three_run(held: &mut [u16], keys: &[u16], row: Row, taps: Taps, pitch: usize) -> usize
     requires { ⌜ (row .lo ≤ row .hi) × (row .at + row .hi + 7 ≤ length (now keys)) ⌝ }
     requires { ⌜ BlendFits 3 pitch (row .hi) (taps .t0) (taps .t1) (taps .t2) (taps .to) (length (now held)) ⌝ }
-    ensures { λ r. ⌜ (row .hi ≤ r) × Planes (In (row .lo + 1) (r + 1)) (λ (j X : ℕ). blended (numbers (now (held .entry))) pitch (taps .t0) (taps .t1) (taps .t2) (λ (x : ℕ). getD (now (keys .entry)) (row .at + x) 0) j (X - 1)) (numbers (now (held .entry))) (numbers (now (held .exit))) (taps .to - 1) pitch 3 ⌝ }
+    ensures { λ r. ⌜ (row .hi ≤ r) × Blent (numbers (now (held .entry))) (numbers (now (held .exit))) (λ (x : ℕ). getD (now (keys .entry)) (row .at + x) 0) 3 pitch (taps .t0) (taps .t1) (taps .t2) (taps .to) (row .lo) r ⌝ }
 {
     let mut x = row.lo;
     while x < row.hi {
@@ -147,7 +147,7 @@ fn several_run(
 ) -> usize
     requires { ⌜ (row .lo ≤ row .hi) × (row .at + row .hi ≤ length (now keys)) ⌝ }
     requires { ⌜ BlendFits planes pitch (row .hi) (taps .t0) (taps .t1) (taps .t2) (taps .to) (length (now held)) ⌝ }
-    ensures { λ r. ⌜ (row .hi ≤ r) × Planes (In (row .lo + 1) (r + 1)) (λ (j X : ℕ). blended (numbers (now (held .entry))) pitch (taps .t0) (taps .t1) (taps .t2) (λ (x : ℕ). getD (now (keys .entry)) (row .at + x) 0) j (X - 1)) (numbers (now (held .entry))) (numbers (now (held .exit))) (taps .to - 1) pitch planes ⌝ }
+    ensures { λ r. ⌜ (row .hi ≤ r) × Blent (numbers (now (held .entry))) (numbers (now (held .exit))) (λ (x : ℕ). getD (now (keys .entry)) (row .at + x) 0) planes pitch (taps .t0) (taps .t1) (taps .t2) (taps .to) (row .lo) r ⌝ }
 {
     let mut x = row.lo;
     while x < row.hi {

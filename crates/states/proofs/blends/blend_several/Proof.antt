@@ -8,7 +8,7 @@ use lib.ListN.{length, getD, getD-replicate}
 use Rattle.basics.proofs.Numbers.{rows-fit}
 use Rattle.eights.specs.Turned.{turned, numbers}
 use Rattle.eights.proofs.TurnedLaws.{turned-high}
-use Rattle.states.specs.Rows.{In, Planes, layerAhead, blended}
+use Rattle.states.specs.Rows.{Blent, layerAhead}
 use Rattle.states.proofs.PlaneLaws.{apart-wider, planes-none, planes-ends}
 use Rattle.states.proofs.BlendLaws.{layer-read, layer-none, plane-put, blended-next}
 use Rattle.states.proofs.blends.blend_several.Statement.{statement}
@@ -21,7 +21,7 @@ Inv-loop held₀ key taps x pitch planes below₀ j₀ o₀ held below j o =
     × (length held ≡ length held₀)
     × ((i : ℕ) → i < 8 → turned (getD below i 0) ≡ layerAhead (numbers held₀) pitch (taps .t0) (taps .t1) (taps .t2) j (x + i))
     × ((keys : ℕ → ℕ) → ((i : ℕ) → i < 8 → turned (getD key i 0) ≡ keys (x + i)) →
-    Planes (In (x + 1) (x + 9)) (λ (n X : ℕ). blended (numbers held₀) pitch (taps .t0) (taps .t1) (taps .t2) keys n (X - 1)) (numbers held₀) (numbers held) (taps .to - 1) pitch j)
+    Blent (numbers held₀) (numbers held) keys j pitch (taps .t0) (taps .t1) (taps .t2) (taps .to) x (x + 8))
 
 abbrev μ-loop : tie.MeasureT-loop
 μ-loop held₀ key taps x pitch planes below₀ j₀ o₀ held below j o = planes - j

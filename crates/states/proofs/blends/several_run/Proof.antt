@@ -4,7 +4,7 @@ use mathlib.Core.Path.{_≡_, refl, ap, _∙_}
 use native.Mathlib.Omega.{arith}
 use lib.ListN.{length, getD}
 use Rattle.eights.specs.Turned.{numbers}
-use Rattle.states.specs.Rows.{In, Planes, blended}
+use Rattle.states.specs.Rows.{Blent}
 use Rattle.states.proofs.BlendLaws.{fits-before, columns-none, columns-more}
 use Rattle.states.proofs.blends.several_run.Statement.{statement}
 use Rattle.states.proofs.blends.several_run.Tie as tie
@@ -13,13 +13,16 @@ abbrev Inv-loop : tie.InvT-loop
 Inv-loop held₀ keys row taps pitch planes x₀ held x =
     (row .lo ≤ x)
     × (length held ≡ length held₀)
-    × Planes (In (row .lo + 1) (x + 1)) (λ (j X : ℕ). blended (numbers held₀) pitch (taps .t0) (taps .t1) (taps .t2) (λ (y : ℕ). getD keys (row .at + y) 0) j (X - 1)) (numbers held₀) (numbers held) (taps .to - 1) pitch planes
+    × Blent (numbers held₀) (numbers held) (λ (y : ℕ). getD keys (row .at + y) 0) planes pitch (taps .t0) (taps .t1) (taps .t2) (taps .to) (row .lo) x
 
 abbrev μ-loop : tie.MeasureT-loop
 μ-loop held₀ keys row taps pitch planes x₀ held x = row .hi + 8 - x
 
 loop-holds : tie.Need-loop-holds Inv-loop μ-loop
-loop-holds c = let s = c .before .before in (omega arith, refl, columns-none (s .args .planes) (s .args .pitch) _ _ _ (s .args .taps .to) _ (s .pre .1 .taps) _ _ _)
+loop-holds c =
+    let s = c .before .before in
+    let a = s .args in
+    (omega arith, refl, columns-none (a .planes) (a .pitch) (a .taps .t0) (a .taps .t1) (a .taps .t2) (a .taps .to) _ (s .pre .1 .taps) (λ (y : ℕ). getD (a .keys .now) (a .row .at + y) 0) _ (a .row .lo))
 
 add-keys-at : tie.Need-add-keys-at Inv-loop μ-loop
 add-keys-at c = let s = c .before .before .before .before .before .before in let l = c .before .before .before .loop in omega (arith, s .pre .0, l .inv .0, c .before .if1 .taken)
