@@ -13,7 +13,7 @@ import sys
 NAME = r"[^\s(){}\[\];,.@\"`]+"
 DECLARED = re.compile(rf"^(?:(?:abbrev|unfoldable|pub|private)\s+)*({NAME})(?: \{{[^{{}}\n]*\}})* :(?= |$)", re.M)
 FACT = re.compile(r"^(?:(?:abbrev|unfoldable|pub)\s+)*([a-z]\S*) : [^\n]*→ Type 0$", re.M)
-FIELD = re.compile(rf"^  (?:pub )?({NAME}) : ", re.M)
+FIELD = re.compile(rf"^ +(?:(?:abbrev|unfoldable|pub)\s+)*({NAME})(?: \{{[^{{}}\n]*\}})* :(?= |$)", re.M)
 RECORD = re.compile(r"^(?:pub )?(?:record|data) (\S+)", re.M)
 USE = re.compile(r"\buse ([^\s;{]+)\{([^}]*)\}", re.M)
 # words of the libraries that own names join by a dash
@@ -113,7 +113,8 @@ def main():
             m = joined(n)
         if m != n:
             new[n] = m
-    new.update({n: m for n, m in BY_HAND.items() if n in top | fields})
+    if "byRows" in new:
+        new.update({n: m for n, m in BY_HAND.items() if n in top | fields})
     # A definition has the plain name; a lemma or a field that would have it too gets an ending, whether it is respelled now or was before.
     defined = {m for n, m in new.items() if n in spec_names or re.search(r"[a-z][A-Z]", n)}
     for n in sorted(top | fields):
@@ -184,7 +185,7 @@ def main():
         if t != text:
             with open(path, "w", encoding="utf-8") as f:
                 f.write(t)
-    with open("docs/PORT-NAMES.txt", "w", encoding="utf-8") as f:
+    with open("tools/respelled.txt", "w", encoding="utf-8") as f:
         for n in sorted(new):
             f.write(f"{n} {new[n]}\n")
     print(f"{len(new)} names, {changed} files")
