@@ -53,9 +53,9 @@ module _ (wanted m n : ℕ) (some : 1 ≤ wanted) where
       ∙ ⊎_elim (λ t. right_false (eqb m wanted) (eqb n wanted) (ne_eqb n wanted (λ e. eqb-false m n differ (omega (arith, eqb-true m wanted t))))) (λ f. left_false (eqb m wanted) (eqb n wanted) f) (true_or_false (eqb m wanted)))
       (true_or_false (eqb m n))
 
-  pub two-as-one :
+  pub two_as_one :
       {A : Type 0} (refusal rest : A) →
       cond (not (eqb m wanted)) refusal (cond (not (eqb n wanted)) refusal rest) ≡ cond (not (eqb (common_length m n) wanted)) refusal rest
-  two-as-one {A} refusal rest =
+  two_as_one {A} refusal rest =
       one_after_other (eqb m wanted) (eqb n wanted) refusal rest
       ∙ ap (λ (b : Bool). cond (not b) refusal rest) (sym common_wanted)

@@ -22,7 +22,7 @@ use Rattle.plate.proofs.Sizes.{good_size}
 use Rattle.plate.proofs.Verdicts.{clear_accepted, accepted_clear, clash, refused_first, passed_first, clear_both, clear_first, same_after}
 use Rattle.between.specs.Lengths.{common_length}
 use Rattle.between.specs.Refusals.{first_above, bounds_check, between_verdict}
-use Rattle.between.proofs.CommonLengths.{two-as-one}
+use Rattle.between.proofs.CommonLengths.{two_as_one}
 
 -- a good size has a pixel
 some_pixel : (W H : ℕ) → bad_size W H ≡ false → 1 ≤ W * H
@@ -49,8 +49,8 @@ module _ (W H : ℕ) (s : Setting) (low high : List ℤ) (lowRoom highRoom work 
   abbrev pub lent : Lent
   lent = record { input = common_length (length low) (length high); fills = Result; filled = common_length lowRoom highRoom; work = work }
 
-  abbrev sizeAndSetting : List Check
-  sizeAndSetting = size_check W H ∷ setting_checks s
+  abbrev size_and_setting : List Check
+  size_and_setting = size_check W H ∷ setting_checks s
 
   abbrev buffers : List Check
   buffers =
@@ -67,51 +67,51 @@ module _ (W H : ℕ) (s : Setting) (low high : List ℤ) (lowRoom highRoom work 
   common_same : 1 ≤ W * H → judged {A = Unit} buffers tt ≡ judged common tt
   unfolding judged
   common_same some =
-      two-as-one (W * H) (length low) (length high) some (refused refusal_input 0) _
-      ∙ ap (cond (not (eqb lent.input (W * H))) (refused refusal_input 0)) (two-as-one (W * H) lowRoom highRoom some (refused refusal_result 0) _)
+      two_as_one (W * H) (length low) (length high) some (refused refusal_input 0) _
+      ∙ ap (cond (not (eqb lent.input (W * H))) (refused refusal_input 0)) (two_as_one (W * H) lowRoom highRoom some (refused refusal_result 0) _)
 
-  judge_same : judged {A = Unit} (sizeAndSetting ++ buffers) tt ≡ call_verdict W H s lent
+  judge_same : judged {A = Unit} (size_and_setting ++ buffers) tt ≡ call_verdict W H s lent
   unfolding call_verdict
-  judge_same = same_after tt sizeAndSetting buffers common (λ clear. common_same (some_pixel W H clear.0))
+  judge_same = same_after tt size_and_setting buffers common (λ clear. common_same (some_pixel W H clear.0))
 
   pub judge_refuses : {n p : ℕ} → refused n p ≡ call_verdict W H s lent → refused n p ≡ between_verdict W H s low high lowRoom highRoom work
   unfolding between_verdict
-  judge_refuses {n} {p} e = sym (refused_first tt tt (sizeAndSetting ++ buffers) (bounds_check low high ∷ []) n p (judge_same ∙ sym e))
+  judge_refuses {n} {p} e = sym (refused_first tt tt (size_and_setting ++ buffers) (bounds_check low high ∷ []) n p (judge_same ∙ sym e))
 
   -- checks 1 to 8 have passed
   module _ (passed : accepted tt ≡ call_verdict W H s lent) where
-    clear : Clear (sizeAndSetting ++ buffers)
-    clear = (accepted_clear (sizeAndSetting ++ buffers) tt tt (judge_same ∙ sym passed)).1
+    clear : Clear (size_and_setting ++ buffers)
+    clear = (accepted_clear (size_and_setting ++ buffers) tt tt (judge_same ∙ sym passed)).1
 
-    abbrev buffers-clear : Clear buffers
-    buffers-clear = clear.1.1.1.1.1.1
+    abbrev buffers_clear : Clear buffers
+    buffers_clear = clear.1.1.1.1.1.1
 
-    bounds-decide : between_verdict W H s low high lowRoom highRoom work ≡ judged (bounds_check low high ∷ []) tt
+    bounds_decide : between_verdict W H s low high lowRoom highRoom work ≡ judged (bounds_check low high ∷ []) tt
     unfolding between_verdict
-    bounds-decide = passed_first tt (sizeAndSetting ++ buffers) (bounds_check low high ∷ []) clear
+    bounds_decide = passed_first tt (size_and_setting ++ buffers) (bounds_check low high ∷ []) clear
 
-    bounds-refuse : (x : ℕ) → x ≡ first_above low high → x < length low → refused refusal_bounds x ≡ between_verdict W H s low high lowRoom highRoom work
+    bounds_refuse : (x : ℕ) → x ≡ first_above low high → x < length low → refused refusal_bounds x ≡ between_verdict W H s low high lowRoom highRoom work
     unfolding judged
-    bounds-refuse x e h = rw e (rw (bounds-decide, lt-ltb (first_above low high) (length low) (omega (arith, e))))
+    bounds_refuse x e h = rw e (rw (bounds_decide, lt-ltb (first_above low high) (length low) (omega (arith, e))))
 
-    bounds-pass : length low ≤ first_above low high → accepted tt ≡ between_verdict W H s low high lowRoom highRoom work
+    bounds_pass : length low ≤ first_above low high → accepted tt ≡ between_verdict W H s low high lowRoom highRoom work
     unfolding judged
-    bounds-pass h = rw (bounds-decide, le-ltb (first_above low high) (length low) h)
+    bounds_pass h = rw (bounds_decide, le-ltb (first_above low high) (length low) h)
 
     filter_accepted : (plate room : ℕ) → not (eqb plate (W * H)) ≡ false → not (eqb room (W * H)) ≡ false → filter_verdict W H s plate room work ≡ accepted tt
     unfolding filter_verdict
     filter_accepted plate room input result =
         let lengths : List Check = input_check (W * H) plate ∷ result_check (W * H) room ∷ work_check s.gaps (W * H) work ∷ [] in
-        let fit : Clear lengths = (input, (result, (buffers-clear.1.1.1.1.0, tt))) in
-        clear_accepted (filter_checks W H s plate (W * H) room work) tt (clear_both sizeAndSetting lengths (clear_first sizeAndSetting buffers clear) fit)
+        let fit : Clear lengths = (input, (result, (buffers_clear.1.1.1.1.0, tt))) in
+        clear_accepted (filter_checks W H s plate (W * H) room work) tt (clear_both size_and_setting lengths (clear_first size_and_setting buffers clear) fit)
 
-    pub judge-passes : BothPassed W H s low high lowRoom highRoom work
-    judge-passes =
+    pub judge_passes : BothPassed W H s low high lowRoom highRoom work
+    judge_passes =
         record {
-          sized_low = eqb-true (length low) (W * H) (not-false _ buffers-clear.0);
-          sized_high = eqb-true (length high) (W * H) (not-false _ buffers-clear.1.0);
-          refuses = bounds-refuse;
-          accepts = bounds-pass;
-          filters_low = filter_accepted (length low) lowRoom buffers-clear.0 buffers-clear.1.1.0;
-          filters_high = filter_accepted (length high) highRoom buffers-clear.1.0 buffers-clear.1.1.1.0;
+          sized_low = eqb-true (length low) (W * H) (not-false _ buffers_clear.0);
+          sized_high = eqb-true (length high) (W * H) (not-false _ buffers_clear.1.0);
+          refuses = bounds_refuse;
+          accepts = bounds_pass;
+          filters_low = filter_accepted (length low) lowRoom buffers_clear.0 buffers_clear.1.1.0;
+          filters_high = filter_accepted (length high) highRoom buffers_clear.1.0 buffers_clear.1.1.1.0;
         }

@@ -56,8 +56,8 @@ module _ (low high : List ℤ) where
     pub compared : (b : Bool) → lt_z (to_z w16 (of_z w16 (get_or high x (pos 0)))) (to_z w16 (of_z w16 (get_or low x (pos 0)))) ≡ b → lt_z (level_at high x) (level_at low x) ≡ b
     compared b e = rw (read_level high x h on-high, read_level low x l on-low) at e
 
-    pub one-read : ReadTo x low high → ReadTo (x + 1) low high
-    one-read r =
+    pub one_read : ReadTo x low high → ReadTo (x + 1) low high
+    one_read r =
         record {
           small_low = below_more (λ (y : ℕ). mag (level_at low y) < 32768) x (level_small low x l on-low) r.small_low;
           small_high = below_more (λ (y : ℕ). mag (level_at high y) < 32768) x (level_small high x h on-high) r.small_high;
@@ -77,8 +77,8 @@ module _ (low high : List ℤ) where
         lt_z_no (rw e tt)
 
     module _ (read : ReadTo (first_above low high) low high) where
-      pub low-levels : Levels low
-      low-levels = levels_within low (λ x h. read.small_low x (omega (arith, none)))
+      pub low_levels : Levels low
+      low_levels = levels_within low (λ x h. read.small_low x (omega (arith, none)))
 
-      pub high-levels : length low ≡ length high → Levels high
-      high-levels same = levels_within high (λ x h. read.small_high x (omega (arith, none)))
+      pub high_levels : length low ≡ length high → Levels high
+      high_levels same = levels_within high (λ x h. read.small_high x (omega (arith, none)))

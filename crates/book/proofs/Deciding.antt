@@ -55,15 +55,15 @@ module _ (b : Book) (few : b.count ≤ max_entries) (room : length b.entries ≡
         go (all none l) = none
         go (fewer some l) = absurd (omega (arith, shown, left))
 
-    pub other-count : (r.count ≡ b.count → ⊥) → stands b target ≡ true
-    other-count differ = go (left_of (is_meant target) (standing b))
+    pub other_count : (r.count ≡ b.count → ⊥) → stands b target ≡ true
+    other_count differ = go (left_of (is_meant target) (standing b))
       where
         go : Left (is_meant target) (standing b) → stands b target ≡ true
         go (all none l) = absurd (differ (omega (arith, shown, left)))
         go (fewer some l) = some
 
-    fewer-left : r.count ≤ b.count
-    fewer-left = go (left_of (is_meant target) (standing b))
+    fewer_left : r.count ≤ b.count
+    fewer_left = go (left_of (is_meant target) (standing b))
       where
         go : Left (is_meant target) (standing b) → r.count ≤ b.count
         go (all none l) = omega (arith, shown, left)
@@ -72,22 +72,22 @@ module _ (b : Book) (few : b.count ≤ max_entries) (room : length b.entries ≡
   -- ---- withdrawing
 
   module _ (serial : ℕ) (r : Book) (without : r ≡ withdrawn b serial) where
-    pub withdraw-none : r.count ≡ b.count → ◌≡◌ {A = Kept} (record { number = refusal_no_entry; book = b }) (handed_back (withdraw_verdict b serial) b)
+    pub withdraw_none : r.count ≡ b.count → ◌≡◌ {A = Kept} (record { number = refusal_no_entry; book = b }) (handed_back (withdraw_verdict b serial) b)
     unfolding judged withdraw_verdict
-    withdraw-none e = rw (le-ltb max_entries b.count few, same_count (OfSerial serial) r without e)
+    withdraw_none e = rw (le-ltb max_entries b.count few, same_count (OfSerial serial) r without e)
 
-    pub withdraw-done : (r.count ≡ b.count → ⊥) → ◌≡◌ {A = Kept} (record { number = 0; book = r }) (handed_back (withdraw_verdict b serial) b)
+    pub withdraw_done : (r.count ≡ b.count → ⊥) → ◌≡◌ {A = Kept} (record { number = 0; book = r }) (handed_back (withdraw_verdict b serial) b)
     unfolding judged withdraw_verdict
-    withdraw-done differ =
-        rw (le-ltb max_entries b.count few, other-count (OfSerial serial) r without differ) (λ j. record { number = 0; book = without j })
+    withdraw_done differ =
+        rw (le-ltb max_entries b.count few, other_count (OfSerial serial) r without differ) (λ j. record { number = 0; book = without j })
 
   -- ---- entering
 
   module _ (key : Key) (r : Book) (without : r ≡ book_of b.last (others (OfKey key) (standing b))) where
-    pub entry-full : r.count ≡ max_entries → refused refusal_full 0 ≡ judged {A = Unit} (entry_checks b key) tt
+    pub entry_full : r.count ≡ max_entries → refused refusal_full 0 ≡ judged {A = Unit} (entry_checks b key) tt
     unfolding judged is_full
-    entry-full e =
-        let all_shown : b.count ≡ max_entries = omega (arith, few, fewer-left (OfKey key) r without) in
+    entry_full e =
+        let all_shown : b.count ≡ max_entries = omega (arith, few, fewer_left (OfKey key) r without) in
         let same : r.count ≡ b.count = omega arith in
         rw (le-ltb max_entries b.count few, eq-eqb b.count max_entries all_shown, same_count (OfKey key) r without same)
 
@@ -98,11 +98,11 @@ module _ (b : Book) (few : b.count ≤ max_entries) (room : length b.entries ≡
       where
         go : (c : Bool) → eqb b.count max_entries ≡ c → (c && not (stands b (OfKey key))) ≡ false
         go false e = refl
-        go true e = rw (other-count (OfKey key) r without (λ same. spare (omega (arith, same, eqb-true b.count max_entries e))))
+        go true e = rw (other_count (OfKey key) r without (λ same. spare (omega (arith, same, eqb-true b.count max_entries e))))
 
-    pub entry-spent : (r.count ≡ max_entries → ⊥) → b.last ≡ max_serial → refused refusal_spent 0 ≡ judged {A = Unit} (entry_checks b key) tt
+    pub entry_spent : (r.count ≡ max_entries → ⊥) → b.last ≡ max_serial → refused refusal_spent 0 ≡ judged {A = Unit} (entry_checks b key) tt
     unfolding judged is_spent
-    entry-spent spare e = rw (not_full spare, eq-eqb b.last max_serial e)
+    entry_spent spare e = rw (not_full spare, eq-eqb b.last max_serial e)
 
     pub entry_done : (r.count ≡ max_entries → ⊥) → (b.last ≡ max_serial → ⊥) → accepted tt ≡ judged {A = Unit} (entry_checks b key) tt
     unfolding judged is_spent

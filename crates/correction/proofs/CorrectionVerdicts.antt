@@ -12,7 +12,7 @@ use Rattle.plate.specs.RefusalNumbers.{refusal_reading, refusal_correction}
 use Rattle.correction.specs.Faults.{first_bad, faults_after}
 use Rattle.correction.specs.declared.faults.Faults.{Faults}
 use Rattle.correction.specs.declared.faults.FirstFault.TheVariants.{Nowhere, At}
-use Rattle.correction.proofs.FirstFaults.{all-readings, all-corrections, at_first, nowhere_none}
+use Rattle.correction.proofs.FirstFaults.{all_readings, all_corrections, at_first, nowhere_none}
 
 -- the faults of a plate whose size and lengths are as they have to be
 pub record FaultsFound (W H : ℕ) (readings words : List ℕ) (room : ℕ) (faults : Faults) : Type 0 where
@@ -27,10 +27,10 @@ module _ {W H : ℕ} {readings words : List ℕ} {room : ℕ} {faults : Faults} 
   same = f.readings_many ∙ sym f.words_many
 
   first_of_readings : faults.reading ≡ first_bad bad_reading readings
-  first_of_readings = ap (λ (g : Faults). g.reading) f.found ∙ all-readings readings words same
+  first_of_readings = ap (λ (g : Faults). g.reading) f.found ∙ all_readings readings words same
 
   first_of_words : faults.correction ≡ first_bad bad_correction words
-  first_of_words = ap (λ (g : Faults). g.correction) f.found ∙ all-corrections readings words same
+  first_of_words = ap (λ (g : Faults). g.correction) f.found ∙ all_corrections readings words same
 
   pub no_bad_reading : faults.reading ≡ Nowhere → length readings ≤ first_of bad_reading readings
   no_bad_reading e = nowhere_none bad_reading readings (sym first_of_readings ∙ e)

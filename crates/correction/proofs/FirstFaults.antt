@@ -92,10 +92,10 @@ module _ (readings words : List ℕ) where
 
   -- after the last pixel of a plate
   module _ (same : length readings ≡ length words) where
-    pub all-readings : (faults_after (min (length readings) (length words)) readings words).reading ≡ first_bad bad_reading readings
+    pub all_readings : (faults_after (min (length readings) (length words)) readings words).reading ≡ first_bad bad_reading readings
     unfolding faults_after
-    all-readings = ap (first_bad bad_reading) (take_all (min (length readings) (length words)) readings (omega arith))
+    all_readings = ap (first_bad bad_reading) (take_all (min (length readings) (length words)) readings (omega arith))
 
-    pub all-corrections : (faults_after (min (length readings) (length words)) readings words).correction ≡ first_bad bad_correction words
+    pub all_corrections : (faults_after (min (length readings) (length words)) readings words).correction ≡ first_bad bad_correction words
     unfolding faults_after
-    all-corrections = ap (first_bad bad_correction) (take_all (min (length readings) (length words)) words (omega arith))
+    all_corrections = ap (first_bad bad_correction) (take_all (min (length readings) (length words)) words (omega arith))

@@ -13,19 +13,19 @@ whole_area_lem r slack h k = record { high = omega arith; low = omega arith; wid
 
 module _ (r : Frame) (L : ℕ) where
   module _ (along_rows back : Bool) (planes slack : ℕ) where
-    pub plan-straight : r.diagonal ≡ false → straight_plan r back (whole_area r slack) L planes ≡ filter_plan r along_rows back L planes slack
+    pub plan_straight : r.diagonal ≡ false → straight_plan r back (whole_area r slack) L planes ≡ filter_plan r along_rows back L planes slack
     unfolding filter_plan
-    plan-straight d = rw d
+    plan_straight d = rw d
 
     module _ (d : r.diagonal ≡ true) where
-      pub plan-ranked : (spare : ℕ) → spare ≡ spare_of r L → by_ranks r L ≡ true →
+      pub plan_ranked : (spare : ℕ) → spare ≡ spare_of r L → by_ranks r L ≡ true →
           ranked_plan r along_rows back (whole_area r slack) (spare + 1) planes ≡ filter_plan r along_rows back L planes slack
       unfolding filter_plan
-      plan-ranked spare e b = rw (b, e, d)
+      plan_ranked spare e b = rw (b, e, d)
 
-      pub plan-still : by_ranks r L ≡ false → still_plan r along_rows back L planes slack ≡ filter_plan r along_rows back L planes slack
+      pub plan_still : by_ranks r L ≡ false → still_plan r along_rows back L planes slack ≡ filter_plan r along_rows back L planes slack
       unfolding filter_plan
-      plan-still b = rw (b, d)
+      plan_still b = rw (b, d)
 
 -- ---- all three at once
 
@@ -40,10 +40,10 @@ choice P false k a b c x y z ranked still straight = straight refl
 -- what holds of the three kinds of plans, on either side, holds of the filter's
 module _ (r : Frame) (L : ℕ) where
   module _ (along_rows : Bool) (planes slack : ℕ) where
-    pub filter-choice : (P : (Bool → Plan) → ℕ → Type 0) →
+    pub filter_choice : (P : (Bool → Plan) → ℕ → Type 0) →
         (r.diagonal ≡ true → by_ranks r L ≡ true → P (λ (back : Bool). ranked_plan r along_rows back (whole_area r slack) (spare_of r L + 1) planes) L) →
         (r.diagonal ≡ true → by_ranks r L ≡ false → P (λ (back : Bool). still_plan r along_rows back L planes slack) r.lines) →
         (r.diagonal ≡ false → P (λ (back : Bool). straight_plan r back (whole_area r slack) L planes) (spare_of r L + 1)) →
         P (λ (back : Bool). filter_plan r along_rows back L planes slack) (filter_states r L)
     unfolding filter_plan filter_states
-    filter-choice P ranked still straight = choice P r.diagonal (by_ranks r L) _ _ _ _ _ _ ranked still straight
+    filter_choice P ranked still straight = choice P r.diagonal (by_ranks r L) _ _ _ _ _ _ ranked still straight

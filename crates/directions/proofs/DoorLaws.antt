@@ -181,10 +181,10 @@ module _ (W H index : ℕ) (ranked : Bool) where
         let a = both keep plates b.0 in
         (keeping a.0, eqb-true plate (W * H) a.1, leb-true (W * H) work b.1)
 
-    pub lays-if : GoodSize W H → index < 4 → (ranked ≡ true → (frame_of W H index).across ≤ (frame_of W H index).lines) → plate ≡ W * H → W * H ≤ work →
+    pub lays_if : GoodSize W H → index < 4 → (ranked ≡ true → (frame_of W H index).across ≤ (frame_of W H index).lines) → plate ≡ W * H → W * H ≤ work →
         lays W H index ranked plate work ≡ true
     unfolding lays
-    lays-if size known slim is fit = rw (keeps_if size known slim, eq-eqb plate (W * H) is, le-leb (W * H) work fit)
+    lays_if size known slim is fit = rw (keeps_if size known slim, eq-eqb plate (W * H) is, le-leb (W * H) work fit)
 
   pub place_there : (q : ℕ) → keeps W H index ranked ≡ true → q < W * H → place_kept (frame_of W H index) ranked q ≡ place_kept_by W H index ranked q
   unfolding place_kept_by

@@ -15,8 +15,8 @@ use Rattle.plans.specs.Forms.{well_formed}
 use Rattle.sweeps.specs.Doors.{states_of, other_end}
 use Rattle.plans.specs.declared.plan.Plan.{Plan}
 use Rattle.directions.specs.Plans.{filter_plan, filter_states, reach_in, by_ranks, spare_of, whole_area, FrameOf}
-use Rattle.directions.proofs.ChoiceLaws.{whole_area_lem, filter-choice}
-use Rattle.directions.proofs.PlanForms.{straight_formed, still_formed, ranked-formed}
+use Rattle.directions.proofs.ChoiceLaws.{whole_area_lem, filter_choice}
+use Rattle.directions.proofs.PlanForms.{straight_formed, still_formed, ranked_formed}
 
 -- ---- which plan it is
 
@@ -69,37 +69,37 @@ module _ (r : Frame) {W H index : ℕ} (L : ℕ) (framed : Framed r W H index) (
 
   pub filter_states_few : filter_states r L ≤ 1024
   filter_states_few =
-      filter-choice r L true 1 0 (λ (p : Bool → Plan) (n : ℕ). n ≤ 1024)
+      filter_choice r L true 1 0 (λ (p : Bool → Plan) (n : ℕ). n ≤ 1024)
       (λ d k. few)
       (λ d k. framed.bounded.few_lines)
       (λ d. omega (arith, spare_straight r L d, straight_few d, framed.bounded))
 
   module _ (along_rows : Bool) (planes slack : ℕ) where
-    pub filter-formed : (back : Bool) → 1 ≤ planes → planes ≤ 9 → well_formed (filter_plan r along_rows back L planes slack) ≡ true
-    filter-formed back some_planes few_planes =
+    pub filter_formed : (back : Bool) → 1 ≤ planes → planes ≤ 9 → well_formed (filter_plan r along_rows back L planes slack) ≡ true
+    filter_formed back some_planes few_planes =
         let b : Bounded r = framed.bounded in
-        filter-choice r L along_rows planes slack (λ (p : Bool → Plan) (n : ℕ). well_formed (p back) ≡ true)
-        (λ d k. ranked-formed r along_rows back (whole_area r slack) (spare_of r L + 1) planes b (whole_area_lem r slack b.some_lines b.some_across) (of.slim d) (omega arith)
+        filter_choice r L along_rows planes slack (λ (p : Bool → Plan) (n : ℕ). well_formed (p back) ≡ true)
+        (λ d k. ranked_formed r along_rows back (whole_area r slack) (spare_of r L + 1) planes b (whole_area_lem r slack b.some_lines b.some_across) (of.slim d) (omega arith)
         (omega (arith, ranks_fit r L k)) some_planes few_planes)
         (λ d k. still_formed r along_rows back L planes slack b some few some_planes few_planes)
         (λ d. straight_formed r back (whole_area r slack) L planes b (whole_area_lem r slack b.some_lines b.some_across) some few some_planes few_planes)
 
     -- the other side has the same rows, counted from the other end
-    pub filter-other :
+    pub filter_other :
         other_end (filter_plan r along_rows false L planes slack) (reach_in r along_rows (filter_plan r along_rows false L planes slack).ranked true)
         ≡ filter_plan r along_rows true L planes slack
-    filter-other =
-        filter-choice r L along_rows planes slack
+    filter_other =
+        filter_choice r L along_rows planes slack
         (λ (p : Bool → Plan) (n : ℕ). other_end (p false) (reach_in r along_rows (p false).ranked true) ≡ p true)
         (λ d k. rw d)
         (λ d k. rw d)
         (λ d. rw d)
 
-    pub filter-count : states_of (filter_plan r along_rows false L planes slack) ≡ filter_states r L
+    pub filter_count : states_of (filter_plan r along_rows false L planes slack) ≡ filter_states r L
     unfolding states_of
-    filter-count =
+    filter_count =
         let b : Bounded r = framed.bounded in
-        filter-choice r L along_rows planes slack (λ (p : Bool → Plan) (n : ℕ). states_of (p false) ≡ n)
+        filter_choice r L along_rows planes slack (λ (p : Bool → Plan) (n : ℕ). states_of (p false) ≡ n)
         (λ d k. omega (arith, fit_diagonal d, b.some_lines, b.some_across))
         (λ d k. refl)
         (λ d. omega (arith, spare_straight r L d, straight_few d))

@@ -65,26 +65,26 @@ module _ (r : Frame) (W H index : ℕ) (framed : Framed r W H index) (back : Boo
   walks = best_walk_to p.slack next g passes
 
   module _ (n i x : ℕ) (on : i < r.lines) (column : x < r.across) where
-    fewer-onward : (j : ℕ) → fewer (λ b. best (walks n b) (next (place_in r i x))) j ≡ fewer (λ b. onward (walks n b) r back i x) j
+    fewer_onward : (j : ℕ) → fewer (λ b. best (walks n b) (next (place_in r i x))) j ≡ fewer (λ b. onward (walks n b) r back i x) j
     unfolding fewer
-    fewer-onward zero = refl
-    fewer-onward (suc j) = framed.near (walks n j) back i x on column
+    fewer_onward zero = refl
+    fewer_onward (suc j) = framed.near (walks n j) back i x on column
 
-    step-onward : (j : ℕ) →
+    step_onward : (j : ℕ) →
         walks (suc n) j (place_in r i x)
         ≡ max (min (g (place_in r i x)) (onward (walks n j) r back i x)) (fewer (λ b. onward (walks n b) r back i x) j)
-    step-onward j = from_step p.slack next g passes n j (place_in r i x) ∙ rw (framed.near (walks n j) back i x on column, fewer-onward j)
+    step_onward j = from_step p.slack next g passes n j (place_in r i x) ∙ rw (framed.near (walks n j) back i x on column, fewer_onward j)
 
     module _ (e m : ℕ) (last this : ℕ → ℕ → ℕ → ℕ)
         (onto : (j : ℕ) → ahead p e last this (suc j) m x ≡ onward (walks n j) r back i x) where
-      fewer-ahead : (j : ℕ) → fewer (λ b. onward (walks n b) r back i x) j ≡ ahead p e last this j m x
+      fewer_ahead : (j : ℕ) → fewer (λ b. onward (walks n b) r back i x) j ≡ ahead p e last this j m x
       unfolding fewer ahead
-      fewer-ahead zero = refl
-      fewer-ahead (suc j) = sym (onto j)
+      fewer_ahead zero = refl
+      fewer_ahead (suc j) = sym (onto j)
 
-      step-ahead : (j : ℕ) →
+      step_ahead : (j : ℕ) →
           walks (suc n) j (place_in r i x) ≡ max (min (g (place_in r i x)) (ahead p e last this (suc j) m x)) (ahead p e last this j m x)
-      step-ahead j = step-onward j ∙ rw (fewer-ahead j, onto j)
+      step_ahead j = step_onward j ∙ rw (fewer_ahead j, onto j)
 
   -- ---- so the states grow, if the three steps of the plan find the three spots
 
@@ -92,31 +92,31 @@ module _ (r : Frame) (W H index : ℕ) (framed : Framed r W H index) (back : Boo
     abbrev this : ℕ → ℕ → ℕ → ℕ
     this = number_at r p next g passes e
 
-    first-row : (m j x : ℕ) → m < rows_in p e → row_lo p e m ≤ x → x < row_hi p e m → starts p e m ≡ true →
+    first_row : (m j x : ℕ) → m < rows_in p e → row_lo p e m ≤ x → x < row_hi p e m → starts p e m ≡ true →
         this m j x ≡ gate (starts_at p m x) (alone p.slack (keys (row_at p e m + x)) j)
     unfolding number_at starts
-    first-row m j x h a b s =
+    first_row m j x h a b s =
         let q : ℕ = pixel_in r p.ranked (line_at p e m) x in
         ap (λ (n : ℕ). walks n j q) (zero_steps p.ranked e m s)
         ∙ from_start p.slack next g passes j q
         ∙ gated (passes q) (alone p.slack (g q) j)
         ∙ rw (keyed m x h a b, started m x h a b s)
 
-    pub grown-by :
+    pub grown_by :
         AtPixels p e (λ m x. (line_in p e m x < r.lines) × (x < r.across)) →
         AtPixels p e (λ m x. (n : ℕ) → steps_at p e m ≡ suc n → (j : ℕ) →
         ahead p e last (number_at r p (around back W H (2 ^ index)) g passes e) (suc j) m x
         ≡ onward (best_walk_to p.slack (around back W H (2 ^ index)) g passes n j) r back (line_in p e m x) x) →
         Grown p e keys last (number_at r p (around back W H (2 ^ index)) g passes e)
     unfolding number_at starts
-    grown-by on onto =
+    grown_by on onto =
         record {
-          first = λ m j x h k a b s. first-row m j x h a b s;
+          first = λ m j x h k a b s. first_row m j x h a b s;
           later = λ m j x h k a b s.
               let n : ℕ = steps_at p e m - 1 in
               let is : steps_at p e m ≡ suc n = more_steps p.ranked e m s in
               let o = on m x h a b in
               ap (λ (i : ℕ). walks i j (pixel_in r p.ranked (line_at p e m) x)) is
-              ∙ step-ahead n (line_in p e m x) x o.0 o.1 e m last this (onto m x h a b n is) j
+              ∙ step_ahead n (line_in p e m x) x o.0 o.1 e m last this (onto m x h a b n is) j
               ∙ ap (λ (v : ℕ). max (min v (ahead p e last this (suc j) m x)) (ahead p e last this j m x)) (sym (keyed m x h a b));
         }

@@ -28,7 +28,7 @@ use Rattle.directions.specs.Gathering.{Risen}
 use Rattle.theory.specs.BestWalks.{upto, best_walk, joined_at, best_through, key_at}
 use Rattle.theory.specs.Walks.{around}
 use Rattle.theory.specs.Ranks.{steps_left}
-use Rattle.directions.proofs.KeptLaws.{PlanOn, RowOn, sized-filter, on-filter, kept_on, kept_inside}
+use Rattle.directions.proofs.KeptLaws.{PlanOn, RowOn, sized_filter, on_filter, kept_on, kept_inside}
 use Rattle.directions.proofs.PairLaws.{RowFor, Paired, paired}
 
 -- ---- the terms of the decomposition
@@ -109,9 +109,9 @@ module _ (r : Frame) (W H index : ℕ) (framed : Framed r W H index) (known : in
   to = around true W H (2 ^ index)
 
   module _ (old best : List ℕ) (joined : AllJoined p states 0 (number_at r p on g anywhere) (number_at r o to g anywhere) old best) where
-    row-reached : (i x l c : ℕ) → l ≤ steps → c ≤ k → (f : RowFor r p states i x (steps - l)) →
+    row_reached : (i x l c : ℕ) → l ≤ steps → c ≤ k → (f : RowFor r p states i x (steps - l)) →
         min (best_walk slack on g (steps - l) (k - c) (place_in r i x)) (best_walk slack to g l c (place_in r i x)) ≤ get_or best (row_at p f.state f.row + x) 0
-    row-reached i x l c hl hc f =
+    row_reached i x l c hl hc f =
         let other : steps_at o (states - 1 - f.state) (p.rows - 1 - f.row) ≡ l =
         omega (arith, pair.together f.state f.row f.some_state f.some_row, f.is_steps) in
         let gaps : k - (k - c) ≡ c = omega arith in
@@ -125,20 +125,20 @@ module _ (r : Frame) (W H index : ℕ) (framed : Framed r W H index) (known : in
         )
 
     module _ (start new : List ℤ) (risen : Risen r p.ranked best start new 0 (r.lines * r.across)) where
-      row-raised : (i x l c : ℕ) → l ≤ steps → c ≤ k → (f : RowFor r p states i x (steps - l)) →
+      row_raised : (i x l c : ℕ) → l ≤ steps → c ≤ k → (f : RowFor r p states i x (steps - l)) →
           min (best_walk slack on g (steps - l) (k - c) (place_in r i x)) (best_walk slack to g l c (place_in r i x)) ≤ key_at new (place_in r i x)
-      row-raised i x l c hl hc f =
+      row_raised i x l c hl hc f =
           let is-on = rows_on_lem f.state f.row x f.some_state f.some_row f.from f.below in
           let up = risen.reached (row_at p f.state f.row + x) (omega arith) (kept_inside r p sized f.state f.row x is-on) in
           let up' = rw (kept_on r p sized f.state f.row x is-on, f.is_place) at up in
-          omega (arith, row-reached i x l c hl hc f, up')
+          omega (arith, row_reached i x l c hl hc f, up')
 
-      term-raised : (i x : ℕ) → i < r.lines → x < r.across → (l c : ℕ) → l ≤ steps → c ≤ k →
+      term_raised : (i x : ℕ) → i < r.lines → x < r.across → (l c : ℕ) → l ≤ steps → c ≤ k →
           min (best_walk slack on g (steps - l) (k - c) (place_in r i x)) (best_walk slack to g l c (place_in r i x)) ≤ key_at new (place_in r i x)
-      term-raised i x h column l c hl hc =
+      term_raised i x h column l c hl hc =
           ⊎_elim
           (λ a. ⊎_elim
-          (λ b. row-raised i x l c hl hc
+          (λ b. row_raised i x l c hl hc
           (pair.row_for i x (steps - l) l h column (omega arith) (omega (arith, a, framed.room_on i x h column))
           (omega (arith, b, framed.room_back i x h column))))
           (λ b. omega (arith, no_walk slack W H index known g true l c (place_in r i x) (framed.lies i x h column) b))
@@ -147,15 +147,15 @@ module _ (r : Frame) (W H index : ℕ) (framed : Framed r W H index) (known : in
           (le_or_lt (steps - l) (steps_left W H (2 ^ index) false (place_in r i x)))
 
       -- the levels have risen to the best walks, and no further
-      pub walks-raised : (q : ℕ) → q < W * H → best_through slack on to g steps k q ≤ key_at new q
-      walks-raised q h =
+      pub walks_raised : (q : ℕ) → q < W * H → best_through slack on to g steps k q ≤ key_at new q
+      walks_raised q h =
           let at = framed.whole q h in
           subst (λ (z : ℕ). best_through slack on to g steps k z ≤ key_at new z) at.4
           (terms_least slack on to g steps k (place_in r at.0 at.1) (key_at new (place_in r at.0 at.1))
-          (term-raised at.0 at.1 at.2 at.3))
+          (term_raised at.0 at.1 at.2 at.3))
 
-      pub walks-bound : ((q : ℕ) → get_or old q 0 ≡ 0) → (q : ℕ) → key_at new q ≤ max (key_at start q) (best_through slack on to g steps k q)
-      walks-bound none =
+      pub walks_bound : ((q : ℕ) → get_or old q 0 ≡ 0) → (q : ℕ) → key_at new q ≤ max (key_at start q) (best_through slack on to g steps k q)
+      walks_bound none =
           let low : (q : ℕ) → get_or best q 0 ≤ max (get_or old q 0) (best_through slack on to g steps k (place_kept r p.ranked q)) =
           joined.bounded (λ q. best_through slack on to g steps k (place_kept r p.ranked q))
           (λ e m j x z h l few lo hi.
@@ -163,10 +163,10 @@ module _ (r : Frame) (W H index : ℕ) (framed : Framed r W H index) (known : in
           omega (arith, met_below r p o states steps k slack pair W H (2 ^ index) g e m j x h l (omega (arith, pair.same_planes)), same)) in
           risen.bounded (best_through slack on to g steps k) (λ q z h. omega (arith, low q, none q))
 
-      pub all-raised : ((q : ℕ) → get_or old q 0 ≡ 0) → length start ≡ W * H → Raised (λ q. best_through slack on to g steps k q) start new 0 (W * H)
-      all-raised none size =
+      pub all_raised : ((q : ℕ) → get_or old q 0 ≡ 0) → length start ≡ W * H → Raised (λ q. best_through slack on to g steps k q) start new 0 (W * H)
+      all_raised none size =
           record {
-            inside = λ q l h. omega (arith, walks-raised q h, risen.grown q, walks-bound none q);
+            inside = λ q l h. omega (arith, walks_raised q h, risen.grown q, walks_bound none q);
             under = λ q l. absurd (omega arith);
             over = λ q l.
                 ap key
@@ -187,30 +187,30 @@ module _ (r : Frame) (W H index : ℕ) (along_rows : Bool) (L planes slack k : �
       (paired r along_rows L planes slack some framed.bounded.some_across fits)
 
   sized : PlanOn r (plan false)
-  sized = sized-filter r along_rows L planes slack framed.bounded.some_lines framed.bounded.some_across of.slim false
+  sized = sized_filter r along_rows L planes slack framed.bounded.some_lines framed.bounded.some_across of.slim false
 
   rows_on_lem : (e m x : ℕ) → e < filter_states r L → m < (plan false).rows → row_lo (plan false) e m ≤ x → x < row_hi (plan false) e m →
       RowOn r (plan false) e m x
   rows_on_lem e m x h l =
-      on-filter r along_rows L planes slack framed.bounded.some_lines framed.bounded.some_across of.slim false e m x h
+      on_filter r along_rows L planes slack framed.bounded.some_lines framed.bounded.some_across of.slim false e m x h
       (omega (arith, pair.full e h))
 
   module _ (old best : List ℕ) (start new : List ℤ) (none : (q : ℕ) → get_or old q 0 ≡ 0) where
-    pub direction-raised : (g : ℕ → ℕ) →
+    pub direction_raised : (g : ℕ → ℕ) →
         AllJoined (filter_plan r along_rows false L planes slack) (filter_states r L) 0
         (number_at r (filter_plan r along_rows false L planes slack) (around false W H (2 ^ index)) g anywhere)
         (number_at r (filter_plan r along_rows true L planes slack) (around true W H (2 ^ index)) g anywhere) old best →
         Risen r (filter_plan r along_rows false L planes slack).ranked best start new 0 (r.lines * r.across) → length start ≡ W * H →
         Raised (λ q. best_through slack (around false W H (2 ^ index)) (around true W H (2 ^ index)) g (L - 1) k q) start new 0 (W * H)
-    direction-raised g joined risen size =
-        all-raised r W H index framed known (plan false) (plan true) (filter_states r L) (L - 1) k slack pair sized rows_on_lem g old best joined start new risen
+    direction_raised g joined risen size =
+        all_raised r W H index framed known (plan false) (plan true) (filter_states r L) (L - 1) k slack pair sized rows_on_lem g old best joined start new risen
         none size
 
-    pub plate-raised : (mode : ℕ) (plate : List ℤ) →
+    pub plate_raised : (mode : ℕ) (plate : List ℤ) →
         AllJoined (filter_plan r along_rows false L planes slack) (filter_states r L) 0
         (number_at r (filter_plan r along_rows false L planes slack) (around false W H (2 ^ index)) (keys_by mode plate) anywhere)
         (number_at r (filter_plan r along_rows true L planes slack) (around true W H (2 ^ index)) (keys_by mode plate) anywhere) old best →
         Risen r (filter_plan r along_rows false L planes slack).ranked best start new 0 (r.lines * r.across) → length start ≡ W * H →
         Raised (best_of slack W H index mode (L - 1) k plate) start new 0 (W * H)
     unfolding best_of keys_by
-    plate-raised mode plate joined risen size = direction-raised (keys_by mode plate) joined risen size
+    plate_raised mode plate joined risen size = direction_raised (keys_by mode plate) joined risen size

@@ -16,7 +16,7 @@ use Rattle.plans.specs.declared.plan.Plan.{Plan}
 use Rattle.directions.specs.declared.plan.Area.{Area}
 use Rattle.directions.specs.Plans.{straight_plan, still_plan, ranked_plan, whole_area, AreaOf, spare_of, filter_plan, filter_states}
 use Rattle.directions.specs.Numbers.{pixel_in, line_kept, place_kept}
-use Rattle.directions.proofs.ChoiceLaws.{whole_area_lem, filter-choice}
+use Rattle.directions.proofs.ChoiceLaws.{whole_area_lem, filter_choice}
 
 -- ---- one row of keys
 
@@ -154,16 +154,16 @@ module _ (r : Frame) (along_rows : Bool) (L planes slack : ℕ) where
     area : AreaOf r (whole_area r slack)
     area = whole_area_lem r slack some_lines some_across
 
-    pub sized-filter : (back : Bool) → PlanOn r (filter_plan r along_rows back L planes slack)
-    sized-filter = filter-choice r L along_rows planes slack (λ p S. (back : Bool) → PlanOn r (p back))
+    pub sized_filter : (back : Bool) → PlanOn r (filter_plan r along_rows back L planes slack)
+    sized_filter = filter_choice r L along_rows planes slack (λ p S. (back : Bool) → PlanOn r (p back))
         (λ d b back. sized_ranked r (whole_area r slack) area (spare_of r L + 1) planes along_rows back (slim d))
         (λ d b back. sized_still r L planes slack along_rows back)
         (λ d back. sized_straight r (whole_area r slack) area L planes back)
 
-    pub on-filter : (back : Bool) (e m x : ℕ) → e < filter_states r L → m < rows_in (filter_plan r along_rows back L planes slack) e →
+    pub on_filter : (back : Bool) (e m x : ℕ) → e < filter_states r L → m < rows_in (filter_plan r along_rows back L planes slack) e →
         row_lo (filter_plan r along_rows back L planes slack) e m ≤ x → x < row_hi (filter_plan r along_rows back L planes slack) e m →
         RowOn r (filter_plan r along_rows back L planes slack) e m x
-    on-filter = filter-choice r L along_rows planes slack
+    on_filter = filter_choice r L along_rows planes slack
         (λ p S. (back : Bool) (e m x : ℕ) → e < S → m < rows_in (p back) e → row_lo (p back) e m ≤ x → x < row_hi (p back) e m → RowOn r (p back) e m x)
         (λ d b back e m x h k. on_ranked r (whole_area r slack) area (spare_of r L + 1) planes along_rows back e m x)
         (λ d b back e m x h k. on_still r L planes slack along_rows back e m x h)
@@ -174,7 +174,7 @@ module _ (r : Frame) (along_rows : Bool) (L planes slack : ℕ) where
         place_kept r (filter_plan r along_rows back L planes slack).ranked (row_at (filter_plan r along_rows back L planes slack) e m + x)
         ≡ pixel_in r (filter_plan r along_rows back L planes slack).ranked (line_at (filter_plan r along_rows back L planes slack) e m) x
     kept_row back e m x h k lo hi =
-        kept_on r (filter_plan r along_rows back L planes slack) (sized-filter back) e m x (on-filter back e m x h k lo hi)
+        kept_on r (filter_plan r along_rows back L planes slack) (sized_filter back) e m x (on_filter back e m x h k lo hi)
 
     -- the keys of the rows, where the keys of the plate stand so
     pub keyed : (g keys : ℕ → ℕ) (back : Bool) → ((q : ℕ) → keys q ≡ g (place_kept r (filter_plan r along_rows back L planes slack).ranked q)) →
@@ -186,5 +186,5 @@ module _ (r : Frame) (along_rows : Bool) (L planes slack : ℕ) where
         are (row_at (filter_plan r along_rows back L planes slack) e m + x) ∙ ap g (kept_row back e m x h k lo hi)
 
     -- both sides keep the keys in the same way
-    pub same-ranked : (filter_plan r along_rows true L planes slack).ranked ≡ (filter_plan r along_rows false L planes slack).ranked
-    same-ranked = filter-choice r L along_rows planes slack (λ p S. (p true).ranked ≡ (p false).ranked) (λ d b. refl) (λ d b. refl) (λ d. refl)
+    pub same_ranked : (filter_plan r along_rows true L planes slack).ranked ≡ (filter_plan r along_rows false L planes slack).ranked
+    same_ranked = filter_choice r L along_rows planes slack (λ p S. (p true).ranked ≡ (p false).ranked) (λ d b. refl) (λ d b. refl) (λ d. refl)

@@ -104,10 +104,10 @@ module _ (plate : List ℤ) (r : Frame) (ranked : Bool) where
   small_ends lo hi n s e = record { size = λ q a b. s.size q a (omega arith) }
 
   -- one more, which was read at place p
-  pub small-more :
+  pub small_more :
       (lo hi n p : ℕ) → SmallKept plate r ranked lo hi → p ≡ place_kept r ranked hi → mag (get_or plate p (pos 0)) < 32768 → p < length plate → n ≡ hi + 1 →
       SmallKept plate r ranked lo n
-  small-more lo hi n p s e small on is =
+  small_more lo hi n p s e small on is =
       record {
         size = λ q a b. elim (le_or_lt hi q) [
           | inl l ↦ subst (λ (i : ℕ). mag (level_at plate i) < 32768) (e ∙ ap (place_kept r ranked) (let same : hi ≡ q = omega arith in same))
@@ -117,7 +117,7 @@ module _ (plate : List ℤ) (r : Frame) (ranked : Bool) where
       }
 
   -- one run after the other
-  pub small-join :
+  pub small_join :
       (lo at hi n : ℕ) → SmallKept plate r ranked lo at → SmallKept plate r ranked at hi → hi ≡ n → SmallKept plate r ranked lo n
-  small-join lo at hi n s t e =
+  small_join lo at hi n s t e =
       record { size = λ q a b. elim (le_or_lt at q) [ inl l ↦ t.size q l (omega arith) | inr l ↦ s.size q a l ] }

@@ -24,11 +24,11 @@ use Rattle.directions.specs.Plans.{by_rows, by_ranks, filter_plan, filter_states
 use Rattle.directions.specs.Numbers.{KeptOn, place_kept, keys_by, number_at}
 use Rattle.directions.specs.Gathering.{Risen}
 use Rattle.theory.specs.Walks.{around}
-use Rattle.directions.proofs.KeptLaws.{keyed, same-ranked}
-use Rattle.directions.proofs.FilterLaws.{filter-formed, filter-other, filter-count, filter_states_few}
+use Rattle.directions.proofs.KeptLaws.{keyed, same_ranked}
+use Rattle.directions.proofs.FilterLaws.{filter_formed, filter_other, filter_count, filter_states_few}
 use Rattle.directions.proofs.RoomLaws.{Roomy, room_asked, filter_room, filter_lines, filter_across, filter_ranked}
-use Rattle.directions.proofs.SequenceLaws.{filter-sequence}
-use Rattle.directions.proofs.JoinedLaws.{plate-raised}
+use Rattle.directions.proofs.SequenceLaws.{filter_sequence}
+use Rattle.directions.proofs.JoinedLaws.{plate_raised}
 
 both : (a b : Bool) → (a && b) ≡ true → a ≡ true
 both true b h = refl
@@ -79,20 +79,20 @@ module _ (r : Frame) (W H index : ℕ) (framed : Framed r W H index) (of : Frame
     fit : L ≤ r.lines + cond r.diagonal (r.across - 1) 0
     fit = long_enough L long
 
-    kept-side : KeptOn r (side false).ranked
-    kept-side =
+    kept_side : KeptOn r (side false).ranked
+    kept_side =
         record {
           bounded = framed.bounded;
           lies = λ i x h l. omega (arith, framed.lies i x h l, framed.area);
           slim = λ e. of.slim (both r.diagonal (by_ranks r L) (sym (filter_ranked r along_rows false L planes slack) ∙ e));
         }
 
-    room-side : (room : ℕ) → 4 * (k + 1) * (W * H) ≤ room → Roomy (side false) room
-    room-side room h =
+    room_side : (room : ℕ) → 4 * (k + 1) * (W * H) ≤ room → Roomy (side false) room
+    room_side room h =
         filter_room r L framed of some few fit along_rows false planes slack room (omega arith) (omega arith) (rw (is-planes, framed.area) h)
 
-    keys-side : keys_size (side false) ≡ r.lines * r.across
-    keys-side = rw (filter_lines r along_rows false L planes slack, filter_across r along_rows false L planes slack)
+    keys_side : keys_size (side false) ≡ r.lines * r.across
+    keys_side = rw (filter_lines r along_rows false L planes slack, filter_across r along_rows false L planes slack)
 
     -- ---- the keys, and the states of both sides
 
@@ -104,18 +104,18 @@ module _ (r : Frame) (W H index : ℕ) (framed : Framed r W H index) (of : Frame
       numbers back = number_at r (side back) (around back W H (2 ^ index)) (keys_by mode plate) anywhere
 
       keys_kept : (old work : List ℕ) → Between keys old work 0 (r.lines * r.across) → KeysAre work (side false) keys
-      keys_kept old work b = record { is = λ q h. b.inside q (omega arith) (omega (arith, keys-side)) }
+      keys_kept old work b = record { is = λ q h. b.inside q (omega arith) (omega (arith, keys_side)) }
 
       -- both sides keep the keys in the same way
       keys-of : (back : Bool) (q : ℕ) → keys q ≡ keys_by mode plate (place_kept r (side back).ranked q)
       keys-of true q =
           ap (λ (b : Bool). keys_by mode plate (place_kept r b q))
-          (sym (same-ranked r along_rows L planes slack framed.bounded.some_lines framed.bounded.some_across of.slim))
+          (sym (same_ranked r along_rows L planes slack framed.bounded.some_lines framed.bounded.some_across of.slim))
       keys-of false q = refl
 
       sequence : (back : Bool) → Sequence (side back) keys (filter_states r L) (numbers back)
       sequence back =
-          filter-sequence r W H index framed slack known along_rows back (keys_by mode plate) keys planes L
+          filter_sequence r W H index framed slack known along_rows back (keys_by mode plate) keys planes L
           (λ e h m x l lo hi.
           keyed r along_rows L planes slack framed.bounded.some_lines framed.bounded.some_across of.slim (keys_by mode plate) keys back (keys-of back) e m x
           h l lo hi)
@@ -126,12 +126,12 @@ module _ (r : Frame) (W H index : ℕ) (framed : Framed r W H index) (of : Frame
       joined old work zeros best filled swept =
           swept.is keys (numbers false) (numbers true) (keys_kept old work filled) (sequence false) (sequence true)
 
-      side-opened : (old work zeros best : List ℕ) (start new : List ℤ) → Between keys old work 0 (r.lines * r.across) →
+      side_opened : (old work zeros best : List ℕ) (start new : List ℤ) → Between keys old work 0 (r.lines * r.across) →
           Swept (side false) (side true) (filter_states r L) work zeros best → ((q : ℕ) → get_or zeros q 0 ≡ 0) →
           Risen r (side false).ranked best start new 0 (r.lines * r.across) → length start ≡ W * H →
           Raised (best_of slack W H index mode (L - 1) k plate) start new 0 (W * H)
-      side-opened old work zeros best start new filled swept none risen size =
-          plate-raised r W H index along_rows L planes slack k framed of known some fit is-planes zeros best start new none mode plate
+      side_opened old work zeros best start new filled swept none risen size =
+          plate_raised r W H index along_rows L planes slack k framed of known some fit is-planes zeros best start new none mode plate
           (joined old work zeros best filled swept) risen size
 
     -- ---- the same of the plan and the steps that the code has made
@@ -139,13 +139,13 @@ module _ (r : Frame) (W H index : ℕ) (framed : Framed r W H index) (of : Frame
     abbrev steps_back : Reach
     steps_back = reach_in r along_rows (side false).ranked true
 
-    side-taken : (room : ℕ) → 4 * (k + 1) * (W * H) ≤ room → sweepable (side false) steps_back room 65536 ≡ true
-    side-taken room h =
-        let roomy = room-side room h in
-        let other = filter-formed r L framed of some few fit along_rows planes slack true (omega arith) (omega arith) in
-        sweeps_if (side false) steps_back room 65536 (filter-formed r L framed of some few fit along_rows planes slack false (omega arith) (omega arith))
-        (omega (arith, roomy.halves)) (rw (filter-other r L framed of some few fit along_rows planes slack) other)
-        (omega (arith, filter-count r L framed of some few fit along_rows planes slack, filter_states_few r L framed of some few fit))
+    side_taken : (room : ℕ) → 4 * (k + 1) * (W * H) ≤ room → sweepable (side false) steps_back room 65536 ≡ true
+    side_taken room h =
+        let roomy = room_side room h in
+        let other = filter_formed r L framed of some few fit along_rows planes slack true (omega arith) (omega arith) in
+        sweeps_if (side false) steps_back room 65536 (filter_formed r L framed of some few fit along_rows planes slack false (omega arith) (omega arith))
+        (omega (arith, roomy.halves)) (rw (filter_other r L framed of some few fit along_rows planes slack) other)
+        (omega (arith, filter_count r L framed of some few fit along_rows planes slack, filter_states_few r L framed of some few fit))
         (room_asked (side false) room roomy) roomy.keys
 
     pub opening : (p : Plan) (back : Reach) → p ≡ filter_plan r along_rows false L planes slack → back ≡ reach_in r along_rows p.ranked true →
@@ -153,10 +153,10 @@ module _ (r : Frame) (W H index : ℕ) (framed : Framed r W H index) (of : Frame
     opening p back is-p is-back =
         let is_steps : back ≡ steps_back = rw is-p at is-back in
         rw (is-p, is_steps) (record {
-          kept = kept-side;
-          taken = side-taken;
-          keys_fit = λ room h. omega (arith, (room-side room h).alone, keys-side);
+          kept = kept_side;
+          taken = side_taken;
+          keys_fit = λ room h. omega (arith, (room_side room h).alone, keys_side);
           raised = λ mode plate old work zeros best start new filled swept.
-              side-opened mode plate old work zeros best start new filled
-              (rw (filter-other r L framed of some few fit along_rows planes slack, filter-count r L framed of some few fit along_rows planes slack) at swept);
+              side_opened mode plate old work zeros best start new filled
+              (rw (filter_other r L framed of some few fit along_rows planes slack, filter_count r L framed of some few fit along_rows planes slack) at swept);
         })

@@ -10,7 +10,7 @@ use Rattle.plans.specs.Plans.{line_of, first_in, past_in, order_of, line_at, row
 use Rattle.plans.specs.declared.plan.Plan.{Plan}
 use Rattle.directions.specs.Plans.{straight_plan, still_plan, ranked_plan, whole_area, spare_of, filter_plan, filter_states}
 use Rattle.directions.specs.Numbers.{pixel_in}
-use Rattle.directions.proofs.ChoiceLaws.{filter-choice}
+use Rattle.directions.proofs.ChoiceLaws.{filter_choice}
 use Rattle.plans.proofs.LineForms.{still_rows}
 
 -- the row whose walks of n steps go on from pixel x of line i
@@ -192,7 +192,7 @@ module _ (r : Frame) (along_rows : Bool) (L planes slack : ℕ) (some : 1 ≤ L)
       let z : cond r.diagonal (r.across - 1) 0 ≡ r.across - 1 = rw d in omega (arith, z, fits)
 
   pub paired : Paired r (filter_plan r along_rows false L planes slack) (filter_plan r along_rows true L planes slack) (filter_states r L) (L - 1) planes slack
-  paired = filter-choice r L along_rows planes slack (λ p S. Paired r (p false) (p true) S (L - 1) planes slack)
+  paired = filter_choice r L along_rows planes slack (λ p S. Paired r (p false) (p true) S (L - 1) planes slack)
       (λ d b. paired_ranked r along_rows L planes slack some d (long_slanted d))
       (λ d b. paired_still r along_rows L planes slack some)
       (λ d. paired_straight r L planes slack some d (long_straight d))

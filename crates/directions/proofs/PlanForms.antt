@@ -106,10 +106,10 @@ module _ (r : Frame) (along_rows back : Bool) (a : Area) (rows planes : ℕ) whe
   unfolding is_shaped
   ranked_shaped slim = le-leb r.across r.lines slim
 
-  pub ranked-formed :
+  pub ranked_formed :
       Bounded r → AreaOf r a → r.across ≤ r.lines → 1 ≤ rows → rows ≤ 1024 → 1 ≤ planes → planes ≤ 9 →
       well_formed (ranked_plan r along_rows back a rows planes) ≡ true
   unfolding orders_of origin_of
-  ranked-formed b area slim some few some_planes few_planes =
+  ranked_formed b area slim some few some_planes few_planes =
       formed r (ranked_plan r along_rows back a rows planes) b refl refl some_planes few_planes some few area.high area.low area.wide area.narrow
       refl refl (ranked_shaped slim) (ranked_held along_rows back)

@@ -16,9 +16,9 @@ use Rattle.directions.specs.Numbers.{number_at}
 use Rattle.directions.specs.declared.plan.Area.{Area}
 use Rattle.theory.specs.BestWalks.{best_walk_to}
 use Rattle.theory.specs.Walks.{around}
-use Rattle.directions.proofs.SpotRows.{InArea, Beside, in_or_beside, spot-zero, rank-row}
+use Rattle.directions.proofs.SpotRows.{InArea, Beside, in_or_beside, spot_zero, rank_row}
 use Rattle.directions.proofs.TapLaws.{diagonal_taps}
-use Rattle.directions.proofs.GrownLaws.{Keyed, StartsBy, grown-by}
+use Rattle.directions.proofs.GrownLaws.{Keyed, StartsBy, grown_by}
 
 -- ---- ranks that a step leads to
 
@@ -66,9 +66,9 @@ module _ (r : Frame) (along_rows back : Bool) (a : Area) (rows planes : ℕ) (ar
     rank_on = elim back [ true ↦ omega (arith, rank_within e m row) | false ↦ omega arith ]
 
     -- the row before of the last state is two
-    pub rank-two-on : (k : ℕ) → m ≡ suc k → past back (past back (line_at plan e m)) ≡ line_at plan n k + 2
+    pub rank_two_on : (k : ℕ) → m ≡ suc k → past back (past back (line_at plan e m)) ≡ line_at plan n k + 2
     unfolding line_of order_of past
-    rank-two-on k h = elim back [ true ↦ omega (arith, rank_within e m row) | false ↦ omega arith ]
+    rank_two_on k h = elim back [ true ↦ omega (arith, rank_within e m row) | false ↦ omega arith ]
 
     -- two ranks on from row 0, no pixel of the area has room for the walks of the last state
     no_room :
@@ -102,7 +102,7 @@ module _ (r : Frame) (W H index : ℕ) (framed : Framed r W H index) (slanted : 
     last_row k Y X sum =
         let z : e - 1 ≡ n = omega arith in
         ap (λ (i : ℕ). last_before p i (number (e - 1)) (suc k) j X) is
-        ∙ rank-row (number (e - 1) k j) (walks n j) r a area (line_at p n k) Y X sum (λ x c d. ap (λ (i : ℕ). number i k j x) z) (outside n j)
+        ∙ rank_row (number (e - 1) k j) (walks n j) r a area (line_at p n k) Y X sum (λ x c d. ap (λ (i : ℕ). number i k j x) z) (outside n j)
 
     no_row : (X : ℕ) → last_before p e (number (e - 1)) 0 j X ≡ 0
     unfolding last_before row_before
@@ -112,19 +112,19 @@ module _ (r : Frame) (W H index : ℕ) (framed : Framed r W H index) (slanted : 
       one_on : past back (i + x) ≡ suc (line_at p n m)
       one_on = ap (past back) sum ∙ rank_on r along_rows back a rows planes area e n m row is
 
-      two-on : (k : ℕ) → k ≡ m → last_before p e (number (e - 1)) m j (past back x) ≡ spot (walks n j) r (past back i) (past back x)
-      two-on zero h =
+      two_on : (k : ℕ) → k ≡ m → last_before p e (number (e - 1)) m j (past back x) ≡ spot (walks n j) r (past back i) (past back x)
+      two_on zero h =
           ap (λ (q : ℕ). last_before p e (number (e - 1)) q j (past back x)) (sym h)
           ∙ no_row (past back x)
-          ∙ sym (spot-zero (walks n j) r (past back i) (past back x)
+          ∙ sym (spot_zero (walks n j) r (past back i) (past back x)
           (λ y z c d u v. ⊎_elim
           (λ w. too_far n j y z w (no_room r along_rows back a rows planes area e n m row is i x y z (sym h) sum u v w))
           (λ w. outside n j y z c d w)
           (in_or_beside a y z)))
-      two-on (suc k) h =
+      two_on (suc k) h =
           ap (λ (q : ℕ). last_before p e (number (e - 1)) q j (past back x)) (sym h)
           ∙ last_row k (past back i) (past back x)
-          (past_both back i x ∙ ap (λ (q : ℕ). past back (past back q)) sum ∙ rank-two-on r along_rows back a rows planes area e n m row is k (sym h))
+          (past_both back i x ∙ ap (λ (q : ℕ). past back (past back q)) sum ∙ rank_two_on r along_rows back a rows planes area e n m row is k (sym h))
 
       onto : ahead p e (number (e - 1)) (number e) (suc j) m x ≡ onward (walks n j) r back i x
       unfolding ahead seen
@@ -132,14 +132,14 @@ module _ (r : Frame) (W H index : ℕ) (framed : Framed r W H index) (slanted : 
           diagonal_taps (walks n j) r back i x (λ y X. seen p e (number (e - 1)) (number e) y m j X) along_rows true slanted
           (last_row m (i + 1) (past back x) (omega (arith, past_pixel back i x, one_on)))
           (last_row m (past back i) (x + 1) (omega (arith, past_line back i x, one_on)))
-          (two-on m refl)
+          (two_on m refl)
 
-  pub ranked-grown :
+  pub ranked_grown :
       (e : ℕ) (keys : ℕ → ℕ) → Keyed r (ranked_plan r along_rows back a rows planes) e keys g → StartsBy r (ranked_plan r along_rows back a rows planes) e passes →
       Grown (ranked_plan r along_rows back a rows planes) e keys
       (number_at r (ranked_plan r along_rows back a rows planes) (around back W H (2 ^ index)) g passes (e - 1))
       (number_at r (ranked_plan r along_rows back a rows planes) (around back W H (2 ^ index)) g passes e)
-  ranked-grown e keys keyed started =
-      grown-by r W H index framed back p g passes e keys keyed started (number (e - 1))
+  ranked_grown e keys keyed started =
+      grown_by r W H index framed back p g passes e keys keyed started (number (e - 1))
       (λ m x h k l. pixel_on r along_rows back a rows planes area e m x k l)
       (λ m x h k l n is j. onto e n is j m (line_at p e m - x) x h (pixel_rank r along_rows back a rows planes area e m x k l))

@@ -57,8 +57,8 @@ module _ (r : Frame) (ranked : Bool) (best : List ℕ) where
     higher : (p : ℕ) → key_at new p ≤ key_at (set new at v) p
     higher = anywhere (λ (p : ℕ). key_at new p ≤ key_at (set new at v) p) (omega (arith, here)) (λ p n. omega (arith, other p n))
 
-    pub risen-more : (n : ℕ) → n ≡ hi + 1 → Risen r ranked best old (set new at v) lo n
-    risen-more n e =
+    pub risen_more : (n : ℕ) → n ≡ hi + 1 → Risen r ranked best old (set new at v) lo n
+    risen_more n e =
         record {
           grown = λ p. omega (arith, s.grown p, higher p);
           reached = λ q l h. elim (le_or_lt hi q) [
@@ -76,10 +76,10 @@ module _ (r : Frame) (ranked : Bool) (best : List ℕ) where
         }
 
   -- one run of numbers after the other
-  pub risen-join :
+  pub risen_join :
       (old mid new : List ℤ) (lo at hi n : ℕ) →
       Risen r ranked best old mid lo at → Risen r ranked best mid new at hi → lo ≤ at → at ≤ hi → hi ≡ n → Risen r ranked best old new lo n
-  risen-join old mid new lo at hi n s t o p e =
+  risen_join old mid new lo at hi n s t o p e =
       record {
         grown = λ q. omega (arith, s.grown q, t.grown q);
         reached = λ q l h. elim (le_or_lt at q) [

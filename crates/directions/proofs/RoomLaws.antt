@@ -17,8 +17,8 @@ use Rattle.plans.proofs.FormFacts.{formed}
 use Rattle.sweeps.specs.Doors.{room_for}
 use Rattle.sweeps.proofs.DoorTests.{room_linked, room_alone}
 use Rattle.directions.specs.Plans.{filter_plan, by_ranks, FrameOf}
-use Rattle.directions.proofs.ChoiceLaws.{filter-choice}
-use Rattle.directions.proofs.FilterLaws.{ranks_fit, still_few, straight_few, filter-formed}
+use Rattle.directions.proofs.ChoiceLaws.{filter_choice}
+use Rattle.directions.proofs.FilterLaws.{ranks_fit, still_few, straight_few, filter_formed}
 
 -- the keys and a state find room, where states are linked two of them, and the rows held of two numbers too
 pub record Roomy (p : Plan) (room : ℕ) : Type 0 where
@@ -88,17 +88,17 @@ module _ (r : Frame) (along_rows back : Bool) (L planes slack : ℕ) where
   plan = filter_plan r along_rows back L planes slack
 
   pub filter_planes : plan.planes ≡ planes
-  filter_planes = filter-choice r L along_rows planes slack (λ (p : Bool → Plan) (n : ℕ). (p back).planes ≡ planes) (λ d k. refl) (λ d k. refl) (λ d. refl)
+  filter_planes = filter_choice r L along_rows planes slack (λ (p : Bool → Plan) (n : ℕ). (p back).planes ≡ planes) (λ d k. refl) (λ d k. refl) (λ d. refl)
 
   pub filter_lines : plan.lines ≡ r.lines
-  filter_lines = filter-choice r L along_rows planes slack (λ (p : Bool → Plan) (n : ℕ). (p back).lines ≡ r.lines) (λ d k. refl) (λ d k. refl) (λ d. refl)
+  filter_lines = filter_choice r L along_rows planes slack (λ (p : Bool → Plan) (n : ℕ). (p back).lines ≡ r.lines) (λ d k. refl) (λ d k. refl) (λ d. refl)
 
   pub filter_across : plan.across ≡ r.across
-  filter_across = filter-choice r L along_rows planes slack (λ (p : Bool → Plan) (n : ℕ). (p back).across ≡ r.across) (λ d k. refl) (λ d k. refl) (λ d. refl)
+  filter_across = filter_choice r L along_rows planes slack (λ (p : Bool → Plan) (n : ℕ). (p back).across ≡ r.across) (λ d k. refl) (λ d k. refl) (λ d. refl)
 
   pub filter_ranked : plan.ranked ≡ (r.diagonal && by_ranks r L)
   filter_ranked =
-      filter-choice r L along_rows planes slack (λ (p : Bool → Plan) (n : ℕ). (p back).ranked ≡ (r.diagonal && by_ranks r L))
+      filter_choice r L along_rows planes slack (λ (p : Bool → Plan) (n : ℕ). (p back).ranked ≡ (r.diagonal && by_ranks r L))
       (λ d k. rw (k, d))
       (λ d k. rw (k, d))
       (λ d. rw d)
@@ -109,7 +109,7 @@ module _ (r : Frame) {W H index : ℕ} (L : ℕ) (framed : Framed r W H index) (
     (fit : L ≤ r.lines + cond r.diagonal (r.across - 1) 0) (along_rows back : Bool) (planes slack : ℕ) where
   filter_fits : ((filter_plan r along_rows back L planes slack).rows ≤ r.lines) × ((filter_plan r along_rows back L planes slack).linked ≡ true → r.across ≤ r.lines)
   filter_fits =
-      filter-choice r L along_rows planes slack (λ (p : Bool → Plan) (n : ℕ). ((p back).rows ≤ r.lines) × ((p back).linked ≡ true → r.across ≤ r.lines))
+      filter_choice r L along_rows planes slack (λ (p : Bool → Plan) (n : ℕ). ((p back).rows ≤ r.lines) × ((p back).linked ≡ true → r.across ≤ r.lines))
       (λ d k. (ranks_fit r L k, λ _. of.slim d))
       (λ d k. (still_few r L framed of some few fit d k, λ _. of.slim d))
       (λ d. (straight_few r L framed of some few fit d, λ f. absurd (true≢false (sym f))))
@@ -118,5 +118,5 @@ module _ (r : Frame) {W H index : ℕ} (L : ℕ) (framed : Framed r W H index) (
   filter_room room some_planes few_planes h =
       let lines = filter_lines r along_rows back L planes slack in
       let across = filter_across r along_rows back L planes slack in
-      roomy (filter_plan r along_rows back L planes slack) room (filter-formed r L framed of some few fit along_rows planes slack back some_planes few_planes)
+      roomy (filter_plan r along_rows back L planes slack) room (filter_formed r L framed of some few fit along_rows planes slack back some_planes few_planes)
       (rw lines filter_fits.0) (rw (lines, across) filter_fits.1) (rw (lines, across, filter_planes r along_rows back L planes slack) h)

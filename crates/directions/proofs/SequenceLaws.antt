@@ -22,9 +22,9 @@ use Rattle.theory.specs.BestWalks.{best_walk_to}
 use Rattle.directions.proofs.ChoiceLaws.{whole_area_lem}
 use Rattle.directions.proofs.SpotRows.{Beside}
 use Rattle.directions.proofs.GrownLaws.{Keyed}
-use Rattle.directions.proofs.StraightLaws.{straight-grown}
-use Rattle.directions.proofs.StillLaws.{still-grown}
-use Rattle.directions.proofs.RankedLaws.{room_in, ranked-grown}
+use Rattle.directions.proofs.StraightLaws.{straight_grown}
+use Rattle.directions.proofs.StillLaws.{still_grown}
+use Rattle.directions.proofs.RankedLaws.{room_in, ranked_grown}
 
 -- ---- walks on the whole frame
 
@@ -52,9 +52,9 @@ module _ (r : Frame) (W H index : ℕ) (framed : Framed r W H index) (slack : �
         omega (arith, none, from_below slack (around back W H (2 ^ index)) g passes n j (place_in r i x))
 
     -- on a diagonal, as many ranks as are left of the frame
-    pub slanted-room : (back : Bool) → r.diagonal ≡ true → steps_left W H (2 ^ index) back (place_in r i x) ≡ room_in (whole_area r slack) back i x
-    slanted-room true slanted = framed.room_back i x on column ∙ rw slanted
-    slanted-room false slanted = framed.room_on i x on column ∙ rw slanted (omega arith)
+    pub slanted_room : (back : Bool) → r.diagonal ≡ true → steps_left W H (2 ^ index) back (place_in r i x) ≡ room_in (whole_area r slack) back i x
+    slanted_room true slanted = framed.room_back i x on column ∙ rw slanted
+    slanted_room false slanted = framed.room_on i x on column ∙ rw slanted (omega arith)
 
   -- ---- a sequence of each of the three kinds
 
@@ -63,31 +63,31 @@ module _ (r : Frame) (W H index : ℕ) (framed : Framed r W H index) (slack : �
     abbrev Follows : Plan → ℕ → Type 0
     Follows p states = ((e : ℕ) → e < states → Keyed r p e keys g) → Sequence p keys states (number_at r p (around back W H (2 ^ index)) g anywhere)
 
-    straight-follows : r.diagonal ≡ false → (rows states : ℕ) → Follows (straight_plan r back (whole_area r slack) rows planes) states
+    straight_follows : r.diagonal ≡ false → (rows states : ℕ) → Follows (straight_plan r back (whole_area r slack) rows planes) states
     unfolding starts_at
-    straight-follows straight rows states keyed =
+    straight_follows straight rows states keyed =
         record {
           grown = λ e h.
-              straight-grown r W H index framed straight back g anywhere (whole_area r slack) area rows planes e keys (keyed e h) (λ m x k a b s. refl)
+              straight_grown r W H index framed straight back g anywhere (whole_area r slack) area rows planes e keys (keyed e h) (λ m x k a b s. refl)
               (number_at r (straight_plan r back (whole_area r slack) rows planes) (around back W H (2 ^ index)) g anywhere (e - 1));
         }
 
-    still-follows : r.diagonal ≡ true → (rows : ℕ) → Follows (still_plan r along_rows back rows planes slack) r.lines
+    still_follows : r.diagonal ≡ true → (rows : ℕ) → Follows (still_plan r along_rows back rows planes slack) r.lines
     unfolding starts_at
-    still-follows slanted rows keyed =
+    still_follows slanted rows keyed =
         record {
-          grown = λ e h. still-grown r W H index framed slanted along_rows back g anywhere rows planes slack e keys h (keyed e h) (λ m x k a b s. refl);
+          grown = λ e h. still_grown r W H index framed slanted along_rows back g anywhere rows planes slack e keys h (keyed e h) (λ m x k a b s. refl);
         }
 
-    ranked-follows : r.diagonal ≡ true → (rows states : ℕ) → Follows (ranked_plan r along_rows back (whole_area r slack) rows planes) states
+    ranked_follows : r.diagonal ≡ true → (rows states : ℕ) → Follows (ranked_plan r along_rows back (whole_area r slack) rows planes) states
     unfolding starts_at
-    ranked-follows slanted rows states keyed =
+    ranked_follows slanted rows states keyed =
         record {
           grown = λ e h.
-              ranked-grown r W H index framed slanted along_rows back g anywhere (whole_area r slack) area rows planes
+              ranked_grown r W H index framed slanted along_rows back g anywhere (whole_area r slack) area rows planes
               (λ n j i x k l b. absurd (none_beside i x k l b))
               (λ n j i x w k. no_walk i x w.over_bottom w.before_right known g anywhere back n j
-              (omega (arith, slanted-room i x w.over_bottom w.before_right back slanted)))
+              (omega (arith, slanted_room i x w.over_bottom w.before_right back slanted)))
               e keys (keyed e h) (λ m x k a b s. refl);
         }
 
@@ -100,13 +100,13 @@ module _ (r : Frame) (W H index : ℕ) (framed : Framed r W H index) (slack : �
           (cond ranked (ranked_plan r along_rows back (whole_area r slack) (spare_of r L + 1) planes) (still_plan r along_rows back L planes slack))
           (straight_plan r back (whole_area r slack) L planes))
           (cond slanted (cond ranked L r.lines) (spare_of r L + 1))
-      chosen true true is = ranked-follows is (spare_of r L + 1) L
-      chosen true false is = still-follows is L
-      chosen false ranked is = straight-follows is L (spare_of r L + 1)
+      chosen true true is = ranked_follows is (spare_of r L + 1) L
+      chosen true false is = still_follows is L
+      chosen false ranked is = straight_follows is L (spare_of r L + 1)
 
-      pub filter-sequence :
+      pub filter_sequence :
           ((e : ℕ) → e < filter_states r L → Keyed r (filter_plan r along_rows back L planes slack) e keys g) →
           Sequence (filter_plan r along_rows back L planes slack) keys (filter_states r L)
           (number_at r (filter_plan r along_rows back L planes slack) (around back W H (2 ^ index)) g anywhere)
       unfolding filter_plan filter_states
-      filter-sequence keyed = chosen r.diagonal (by_ranks r L) refl keyed
+      filter_sequence keyed = chosen r.diagonal (by_ranks r L) refl keyed

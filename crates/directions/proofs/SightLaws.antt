@@ -30,23 +30,23 @@ module _ (W H : ℕ) (s : Setting) (index : ℕ) (backwards : Bool) (at : ℕ) w
   sight_unfit v a e = rw (a, e) refl
 
   module _ (fit : fits W H s index ≡ true) where
-    pub sight-off : W * H ≤ at → (v : Sight) → v ≡ no_sight → v ≡ sight_of W H s index backwards at
+    pub sight_off : W * H ≤ at → (v : Sight) → v ≡ no_sight → v ≡ sight_of W H s index backwards at
     unfolding sight_of
-    sight-off h v e = rw (fit, le-ltb at (W * H) h, e) refl
+    sight_off h v e = rw (fit, le-ltb at (W * H) h, e) refl
 
-    pub sight-some : at < W * H → (r : Frame) (p : Plan) (n : ℕ) (spot : Spot) (rows back : Bool) → r ≡ frame_of W H index → rows ≡ by_rows W H index →
+    pub sight_some : at < W * H → (r : Frame) (p : Plan) (n : ℕ) (spot : Spot) (rows back : Bool) → r ≡ frame_of W H index → rows ≡ by_rows W H index →
         spot ≡ spot_of W H index at → back ≡ opposite backwards → p ≡ trace_plan r rows back s.length (s.gaps + 1) spot →
         n ≡ trace_states r back s.length spot → record { frame = r; plan = p; states = n } ≡ sight_of W H s index backwards at
     unfolding sight_of
-    sight-some h r p n spot rows back is_frame is-rows is_spot is-back is_plan is_states =
+    sight_some h r p n spot rows back is_frame is-rows is_spot is-back is_plan is_states =
         rw (fit, lt-ltb at (W * H) h, is_plan, is_states, is_spot, is-rows, is-back, is_frame) refl
 
-    pub sight-told : at < W * H → (v : Sight) → v ≡ sight_of W H s index backwards at →
+    pub sight_told : at < W * H → (v : Sight) → v ≡ sight_of W H s index backwards at →
         (v.frame ≡ frame_of W H index)
         × (v.plan ≡ trace_plan (frame_of W H index) (by_rows W H index) (opposite backwards) s.length (s.gaps + 1) (spot_of W H index at))
         × (v.states ≡ trace_states (frame_of W H index) (opposite backwards) s.length (spot_of W H index at))
     unfolding sight_of
-    sight-told h v e =
+    sight_told h v e =
         let whole : v ≡ record {
           frame = frame_of W H index;
           plan = trace_plan (frame_of W H index) (by_rows W H index) (opposite backwards) s.length (s.gaps + 1) (spot_of W H index at);

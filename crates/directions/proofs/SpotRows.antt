@@ -66,11 +66,11 @@ module _ (lo hi : ℕ) (h : ℕ → ℕ) where
 -- ---- a spot is 0 where no pixel of the frame has a number there
 
 module _ (f : ℕ → ℕ) (r : Frame) where
-  pub spot-zero :
+  pub spot_zero :
       (Y X : ℕ) → ((i x : ℕ) → i < r.lines → x < r.across → Y ≡ suc i → X ≡ suc x → f (place_in r i x) ≡ 0) → spot f r Y X ≡ 0
-  spot-zero zero X none = spot_before f r 0 X refl
-  spot-zero (suc i) zero none = spot_left f r (suc i) 0 refl
-  spot-zero (suc i) (suc x) none =
+  spot_zero zero X none = spot_before f r 0 X refl
+  spot_zero (suc i) zero none = spot_left f r (suc i) 0 refl
+  spot_zero (suc i) (suc x) none =
       ⊎_elim
       (λ k. ⊎_elim
       (λ l. spot_on f r i x k l ∙ none i x k l refl refl)
@@ -95,18 +95,18 @@ module _ (lo hi : ℕ) (h f : ℕ → ℕ) (r : Frame) (Y : ℕ) where
       row_on lo hi h x a b ∙ s.same ∙ sym (spot_on f r s.line x s.on s.column)
       ∙ sym (ap (λ (Z : ℕ). spot f r Z (suc x)) s.is_line)
 
-  row-spots :
+  row_spots :
       (X : ℕ) → ((x : ℕ) → X ≡ suc x → lo ≤ x → x < hi → SpotOf h f r Y x) →
       ((i x : ℕ) → i < r.lines → x < r.across → Y ≡ suc i → X ≡ suc x → (x < lo) ⊎ (hi ≤ x) → f (place_in r i x) ≡ 0) →
       in_row lo hi h X ≡ spot f r Y X
-  row-spots zero within beyond = row_under lo hi h 0 (omega arith) ∙ sym (spot_left f r Y 0 refl)
-  row-spots (suc x) within beyond =
+  row_spots zero within beyond = row_under lo hi h 0 (omega arith) ∙ sym (spot_left f r Y 0 refl)
+  row_spots (suc x) within beyond =
       ⊎_elim
       (λ a. ⊎_elim
       (λ b. found x a b (within x refl a b))
-      (λ b. row_over lo hi h (suc x) b ∙ sym (spot-zero f r Y (suc x) (λ i z k l u v. beyond i z k l u v (inr (omega arith)))))
+      (λ b. row_over lo hi h (suc x) b ∙ sym (spot_zero f r Y (suc x) (λ i z k l u v. beyond i z k l u v (inr (omega arith)))))
       (le_or_lt (suc x) hi))
-      (λ a. row_under lo hi h (suc x) a ∙ sym (spot-zero f r Y (suc x) (λ i z k l u v. beyond i z k l u v (inl (omega arith)))))
+      (λ a. row_under lo hi h (suc x) a ∙ sym (spot_zero f r Y (suc x) (λ i z k l u v. beyond i z k l u v (inl (omega arith)))))
       (le_or_lt lo x)
 
 -- ---- a line of the frame
@@ -115,7 +115,7 @@ pub line_row :
     (h f : ℕ → ℕ) (r : Frame) (y Y X : ℕ) → y < r.lines → Y ≡ suc y → ((x : ℕ) → x < r.across → h x ≡ f (place_in r y x)) →
     in_row 0 r.across h X ≡ spot f r Y X
 line_row h f r y Y X on is same =
-    row-spots 0 r.across h f r Y X
+    row_spots 0 r.across h f r Y X
     (λ x e a b. record { line = y; is_line = is; on = on; column = b; same = same x b })
     (λ i x k l u v c. ⊎_elim (λ (d : x < 0). absurd (omega arith)) (λ (d : r.across ≤ x). absurd (omega arith)) c)
 
@@ -142,8 +142,8 @@ module _ (h f : ℕ → ℕ) (r : Frame) (a : Area) (area : AreaOf r a) (rank Y 
       (λ b. b)
       (in_or_beside a i x)
 
-  pub rank-row :
+  pub rank_row :
       ((x : ℕ) → lo ≤ x → x < hi → h x ≡ f (place_in r (rank - x) x)) →
       ((i x : ℕ) → i < r.lines → x < r.across → Beside a i x → f (place_in r i x) ≡ 0) → in_row lo hi h X ≡ spot f r Y X
-  rank-row same beside =
-      row-spots lo hi h f r Y X (λ x e c d. rank_found x e c d (same x c d)) (λ i x k l u v c. beside i x k l (rank_beside i x u v c))
+  rank_row same beside =
+      row_spots lo hi h f r Y X (λ x e c d. rank_found x e c d (same x c d)) (λ i x k l u v c. beside i x k l (rank_beside i x u v c))

@@ -30,10 +30,10 @@ turned_same : (b : Bool) (n i k : ℕ) → i < n → k < n → counted_from b n 
 turned_same b n i k h l e = sym (turned_twice b n i h) ∙ ap (counted_from b n) e ∙ turned_twice b n k l
 
 module _ (r : Frame) (i x k z : ℕ) (hi : i < r.lines) (hx : x < r.across) (hk : k < r.lines) (hz : z < r.across) where
-  turned-both :
+  turned_both :
       (counted_from r.flipped r.lines i ≡ counted_from r.flipped r.lines k) × (counted_from r.mirrored r.across x ≡ counted_from r.mirrored r.across z) →
       (i ≡ k) × (x ≡ z)
-  turned-both e = (turned_same r.flipped r.lines i k hi hk e.0, turned_same r.mirrored r.across x z hx hz e.1)
+  turned_both e = (turned_same r.flipped r.lines i k hi hk e.0, turned_same r.mirrored r.across x z hx hz e.1)
 
   rows_same : r.leap ≡ r.across → r.hop ≡ 1 → place_in r i x ≡ place_in r k z → (i ≡ k) × (x ≡ z)
   unfolding place_in
@@ -41,7 +41,7 @@ module _ (r : Frame) (i x k z : ℕ) (hi : i < r.lines) (hx : x < r.across) (hk 
       let e' : counted_from r.flipped r.lines i * r.across + counted_from r.mirrored r.across x
       ≡ counted_from r.flipped r.lines k * r.across + counted_from r.mirrored r.across z =
       omega (arith, rw (a, b) at e) in
-      turned-both
+      turned_both
       (digits_same r.across _ _ _ _ (turned_below r.mirrored r.across x hx) (turned_below r.mirrored r.across z hz) e')
 
   columns_same : r.leap ≡ 1 → r.hop ≡ r.lines → place_in r i x ≡ place_in r k z → (i ≡ k) × (x ≡ z)
@@ -51,7 +51,7 @@ module _ (r : Frame) (i x k z : ℕ) (hi : i < r.lines) (hx : x < r.across) (hk 
       ≡ counted_from r.mirrored r.across z * r.lines + counted_from r.flipped r.lines k =
       omega (arith, rw (a, b) at e) in
       let s = digits_same r.lines _ _ _ _ (turned_below r.flipped r.lines i hi) (turned_below r.flipped r.lines k hk) e' in
-      turned-both (s.1, s.0)
+      turned_both (s.1, s.0)
 
 module _ (r : Frame) (W H index : ℕ) (F : FrameOf r W H index) (i x k z : ℕ) where
   same_by :
@@ -192,9 +192,9 @@ module _ (r : Frame) (W H index : ℕ) (F : Framed r W H index) (back : Bool) (i
   spot_there k z Y X hk hz e a =
       rw (e, a, spot_on (only (place_in r k z)) r k z hk hz) (only_at (place_in r k z))
 
-  step-out :
+  step_out :
       (b : Bool) → r.diagonal ≡ b → (k z : ℕ) → Neighbour r back i x k z → 1 ≤ onward (only (place_in r k z)) r back i x
-  step-out true d k z n =
+  step_out true d k z n =
       let there : (Y X : ℕ) → Y ≡ suc k → X ≡ suc z → 1 ≤ spot (only (place_in r k z)) r Y X = λ Y X. spot_there k z Y X n.on_line n.on_pixel in
       let is = onward_diagonal (only (place_in r k z)) r back i x d in
       ⊎_elim
@@ -203,7 +203,7 @@ module _ (r : Frame) (W H index : ℕ) (F : Framed r W H index) (back : Bool) (i
       (λ o. omega (arith, is, there (past back i) (x + 1) o.0 (omega (arith, o.1))))
       (λ o. omega (arith, is, there (past back i) (past back x) o.0 o.1)))
       (n.diagonal d)
-  step-out false d k z n =
+  step_out false d k z n =
       let there : (Y X : ℕ) → Y ≡ suc k → X ≡ suc z → 1 ≤ spot (only (place_in r k z)) r Y X = λ Y X. spot_there k z Y X n.on_line n.on_pixel in
       let is = onward_straight (only (place_in r k z)) r back i x d in
       let s = n.straight d in
@@ -220,5 +220,5 @@ module _ (r : Frame) (W H index : ℕ) (F : Framed r W H index) (back : Bool) (i
   place_step k z n =
       let q = place_in r k z in
       let s = best_find (only q) 1 (around back W H (2 ^ index) (place_in r i x)) (omega arith)
-      (omega (arith, F.near (only q) back i x hi hx, step-out r.diagonal refl k z n)) in
+      (omega (arith, F.near (only q) back i x hi hx, step_out r.diagonal refl k z n)) in
       subst (λ (p : ℕ). Memᴰ p (around back W H (2 ^ index) (place_in r i x))) (only_there q s.0 s.2) s.1

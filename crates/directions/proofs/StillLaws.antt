@@ -14,9 +14,9 @@ use Rattle.directions.specs.Plans.{still_plan}
 use Rattle.directions.specs.Numbers.{number_at}
 use Rattle.theory.specs.BestWalks.{best_walk_to}
 use Rattle.theory.specs.Walks.{around}
-use Rattle.directions.proofs.SpotRows.{spot-zero, line_row}
+use Rattle.directions.proofs.SpotRows.{spot_zero, line_row}
 use Rattle.directions.proofs.TapLaws.{diagonal_taps}
-use Rattle.directions.proofs.GrownLaws.{Keyed, StartsBy, grown-by}
+use Rattle.directions.proofs.GrownLaws.{Keyed, StartsBy, grown_by}
 
 -- ---- the lines of the states
 
@@ -64,7 +64,7 @@ module _ (r : Frame) (W H index : ℕ) (framed : Framed r W H index) (slanted : 
     unfolding last_before row_before first_in past_in number_at
     before zero h X =
         ap (λ (i : ℕ). last_before p i (number (e - 1)) m j X) (sym h)
-        ∙ sym (spot-zero (walks n j) r (past back (line_at p e m)) X
+        ∙ sym (spot_zero (walks n j) r (past back (line_at p e m)) X
         (λ i x k l u v. absurd (none_before r along_rows back rows planes slack e on m i (sym h) k u)))
     before (suc d) h X =
         let z : e - 1 ≡ d = omega arith in
@@ -80,14 +80,14 @@ module _ (r : Frame) (W H index : ℕ) (framed : Framed r W H index) (slanted : 
         diagonal_taps (walks n j) r back (line_at p e m) x (λ y X. seen p e (number (e - 1)) (number e) y m j X) along_rows false slanted
         (along (past back x)) (before e refl (x + 1)) (before e refl (past back x))
 
-  pub still-grown :
+  pub still_grown :
       (e : ℕ) (keys : ℕ → ℕ) → e < r.lines → Keyed r (still_plan r along_rows back rows planes slack) e keys g →
       StartsBy r (still_plan r along_rows back rows planes slack) e passes →
       Grown (still_plan r along_rows back rows planes slack) e keys
       (number_at r (still_plan r along_rows back rows planes slack) (around back W H (2 ^ index)) g passes (e - 1))
       (number_at r (still_plan r along_rows back rows planes slack) (around back W H (2 ^ index)) g passes e)
   unfolding first_in past_in
-  still-grown e keys on keyed started =
-      grown-by r W H index framed back p g passes e keys keyed started (number (e - 1))
+  still_grown e keys on keyed started =
+      grown_by r W H index framed back p g passes e keys keyed started (number (e - 1))
       (λ m x h k l. (line_on r along_rows back rows planes slack e on m, l))
       (λ m x h k l n is j. onto e m n on is j x)

@@ -16,7 +16,7 @@ use Rattle.theory.specs.BestWalks.{best_walk_to}
 use Rattle.theory.specs.Walks.{around}
 use Rattle.directions.proofs.SpotRows.{line_row}
 use Rattle.directions.proofs.TapLaws.{straight_taps}
-use Rattle.directions.proofs.GrownLaws.{Keyed, StartsBy, grown-by}
+use Rattle.directions.proofs.GrownLaws.{Keyed, StartsBy, grown_by}
 
 -- ---- the lines of the rows
 
@@ -56,12 +56,12 @@ module _ (r : Frame) (W H index : ℕ) (framed : Framed r W H index) (straight :
     onto last x =
         straight_taps (walks n j) r back (line_at p e m) x (λ y X. seen p e last (number e) y m j X) straight before
 
-  pub straight-grown :
+  pub straight_grown :
       (e : ℕ) (keys : ℕ → ℕ) → Keyed r (straight_plan r back a rows planes) e keys g → StartsBy r (straight_plan r back a rows planes) e passes →
       (last : ℕ → ℕ → ℕ → ℕ) →
       Grown (straight_plan r back a rows planes) e keys last (number_at r (straight_plan r back a rows planes) (around back W H (2 ^ index)) g passes e)
   unfolding first_in past_in
-  straight-grown e keys keyed started last =
-      grown-by r W H index framed back p g passes e keys keyed started last
+  straight_grown e keys keyed started last =
+      grown_by r W H index framed back p g passes e keys keyed started last
       (λ m x h k l. (line_on r back a rows planes area e m h, l))
       (λ m x h k l n is j. onto e m n h is j last x)

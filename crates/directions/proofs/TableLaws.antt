@@ -32,14 +32,14 @@ module _ (W H : ℕ) (sized : GoodSize W H) where
   abbrev rows_by : ℕ → Frame
   rows_by n = rows W H (eqb (rows_on n 1 false) 2) (eqb (columns_on n 1 false) 2) (leb 2 n)
 
-  abbrev columnsBy : ℕ → Frame
-  columnsBy n = columns W H (eqb (columns_on n 1 false) 2) (eqb (rows_on n 1 false) 2) (leb 2 n)
+  abbrev columns_by : ℕ → Frame
+  columns_by n = columns W H (eqb (columns_on n 1 false) 2) (eqb (rows_on n 1 false) 2) (leb 2 n)
 
   abbrev RowsFrame : ℕ → Type 0
   RowsFrame n = by_rows W H n ≡ true → Framed (rows_by n) W H n × FrameOf (rows_by n) W H n
 
   abbrev ColumnsFrame : ℕ → Type 0
-  ColumnsFrame n = by_rows W H n ≡ false → Framed (columnsBy n) W H n × FrameOf (columnsBy n) W H n
+  ColumnsFrame n = by_rows W H n ≡ false → Framed (columns_by n) W H n × FrameOf (columns_by n) W H n
 
   -- a diagonal is neither north nor east
   diagonal_frame : (r : Frame) (n : ℕ) → 2 ≤ n → r.diagonal ≡ leb 2 n → r.mirrored ≡ cond (by_rows W H n) (leb 2 n) (eqb n 3) → r.across ≤ r.lines →
@@ -56,9 +56,9 @@ module _ (W H : ℕ) (sized : GoodSize W H) where
         by_columns = in-columns;
       }
 
-  rows_frame : (index : ℕ) → index < 4 → RowsFrame index
+  rows_frame_lem : (index : ℕ) → index < 4 → RowsFrame index
   unfolding columns_on rows_on biased plus_one step_at table by_rows
-  rows_frame =
+  rows_frame_lem =
       below_four RowsFrame
       (λ e. (
         framed_rows W H sized 0 (omega arith) (λ z. absurd (omega arith)),
@@ -82,9 +82,9 @@ module _ (W H : ℕ) (sized : GoodSize W H) where
         diagonal_frame (rows_by 3) 3 (omega arith) refl (rw e) (leb-true W H e) (λ z. (refl, refl, refl, refl)) (λ z. absurd (true≢false (sym e ∙ z))),
       ))
 
-  columns_frame : (index : ℕ) → index < 4 → ColumnsFrame index
+  columns_frame_lem : (index : ℕ) → index < 4 → ColumnsFrame index
   unfolding columns_on rows_on biased plus_one step_at table by_rows
-  columns_frame =
+  columns_frame_lem =
       below_four ColumnsFrame
       (λ e. absurd (true≢false e))
       (λ e. (
@@ -101,12 +101,12 @@ module _ (W H : ℕ) (sized : GoodSize W H) where
       ))
       (λ e. (
         framed_columns W H sized 2 (omega arith) (λ z. absurd (omega arith)),
-        diagonal_frame (columnsBy 2) 2 (omega arith) refl (rw e) (omega (arith, leb-false W H e)) (λ z. absurd (true≢false (sym z ∙ e)))
+        diagonal_frame (columns_by 2) 2 (omega arith) refl (rw e) (omega (arith, leb-false W H e)) (λ z. absurd (true≢false (sym z ∙ e)))
             (λ z. (refl, refl, refl, refl)),
       ))
       (λ e. (
         framed_columns W H sized 3 (omega arith) (λ z. absurd (omega arith)),
-        diagonal_frame (columnsBy 3) 3 (omega arith) refl (rw e) (omega (arith, leb-false W H e)) (λ z. absurd (true≢false (sym z ∙ e)))
+        diagonal_frame (columns_by 3) 3 (omega arith) refl (rw e) (omega (arith, leb-false W H e)) (λ z. absurd (true≢false (sym z ∙ e)))
             (λ z. (refl, refl, refl, refl)),
       ))
 
@@ -115,8 +115,8 @@ module _ (W H : ℕ) (sized : GoodSize W H) where
   frame_known index known = go (by_rows W H index) refl
     where
       go : (b : Bool) → by_rows W H index ≡ b → Framed (frame_of W H index) W H index × FrameOf (frame_of W H index) W H index
-      go true e = rw (e, middle_diagonal index known) (rows_frame index known e)
-      go false e = rw (e, middle_diagonal index known) (columns_frame index known e)
+      go true e = rw (e, middle_diagonal index known) (rows_frame_lem index known e)
+      go false e = rw (e, middle_diagonal index known) (columns_frame_lem index known e)
 
   -- the same of a frame that is it
   pub frame_told : (r : Frame) (index : ℕ) → index < 4 → r ≡ frame_of W H index → Framed r W H index × FrameOf r W H index

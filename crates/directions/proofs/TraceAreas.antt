@@ -163,18 +163,18 @@ module _
 
   -- ---- off the area, and too far for the area
 
-  pub trace-outside-lines :
+  pub trace_outside_lines :
       (n j i x : ℕ) → i < r.lines → x < r.across → (i < (trace_area r back s).top) ⊎ ((trace_area r back s).bottom ≤ i) →
       traced slack W H index back g target n j (place_in r i x) ≡ 0
-  trace-outside-lines n j i x hi hx out = trace_none n j i x hi hx (λ C. off_lines r back s n i x C hi out)
+  trace_outside_lines n j i x hi hx out = trace_none n j i x hi hx (λ C. off_lines r back s n i x C hi out)
 
-  pub trace-outside-pixels :
+  pub trace_outside_pixels :
       r.diagonal ≡ true → (n j i x : ℕ) → i < r.lines → x < r.across → (x < (trace_area r back s).left) ⊎ ((trace_area r back s).right ≤ x) →
       traced slack W H index back g target n j (place_in r i x) ≡ 0
-  trace-outside-pixels d n j i x hi hx out = trace_none n j i x hi hx (λ C. off_pixels r back s n i x C d hx out)
+  trace_outside_pixels d n j i x hi hx out = trace_none n j i x hi hx (λ C. off_pixels r back s n i x C d hx out)
 
-  pub trace-too-far :
+  pub trace_too_far :
       r.diagonal ≡ true → (n j i x : ℕ) → i < r.lines → x < r.across →
       cond back ((trace_area r back s).bottom - 1 - i + ((trace_area r back s).right - 1 - x)) (i - (trace_area r back s).top + (x - (trace_area r back s).left)) < n →
       traced slack W H index back g target n j (place_in r i x) ≡ 0
-  trace-too-far d n j i x hi hx far = trace_none n j i x hi hx (λ C. off_ranks r back s n i x C d far)
+  trace_too_far d n j i x hi hx far = trace_none n j i x hi hx (λ C. off_ranks r back s n i x C d far)

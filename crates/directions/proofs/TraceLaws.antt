@@ -41,12 +41,12 @@ module _ (r : Frame) (W H index p : ℕ) (of : FrameOf r W H index) (on : p < W 
     pub row_on : p / W < r.lines
     row_on = omega (arith, row_below W H p on, (of.along_rows along_rows).0)
 
-    pub column-on : p % W < r.across
-    column-on = omega (arith, column_below W H p on, (of.along_rows along_rows).1)
+    pub column_on : p % W < r.across
+    column_on = omega (arith, column_below W H p on, (of.along_rows along_rows).1)
 
-    pub spot-in-rows : SpotOf r (spot_in r (p / W) (p % W)) p
-    spot-in-rows =
-        let sizes = of.along_rows along_rows in spot_at r (p / W) (p % W) p row_on column-on (rw (sizes.2, sizes.3, mul-one (p % W)) digits)
+    pub spot_in_rows : SpotOf r (spot_in r (p / W) (p % W)) p
+    spot_in_rows =
+        let sizes = of.along_rows along_rows in spot_at r (p / W) (p % W) p row_on column_on (rw (sizes.2, sizes.3, mul-one (p % W)) digits)
 
   module _ (by_columns : by_rows W H index ≡ false) where
     pub line_on : p % W < r.lines
@@ -55,8 +55,8 @@ module _ (r : Frame) (W H index p : ℕ) (of : FrameOf r W H index) (on : p < W 
     pub pixel_on : p / W < r.across
     pixel_on = omega (arith, row_below W H p on, (of.by_columns by_columns).1)
 
-    pub spot-in-columns : SpotOf r (spot_in r (p % W) (p / W)) p
-    spot-in-columns =
+    pub spot_in_columns : SpotOf r (spot_in r (p % W) (p / W)) p
+    spot_in_columns =
         let sizes = of.by_columns by_columns in
         spot_at r (p % W) (p / W) p line_on pixel_on (rw (sizes.2, sizes.3, mul-one (p % W)) (omega (arith, digits)))
 
@@ -77,8 +77,8 @@ unfolding spot_of
 spot_known W H index p size known on = go (by_rows W H index) refl
   where
     go : (b : Bool) → by_rows W H index ≡ b → SpotOf (frame_of W H index) (spot_of W H index p) p
-    go true e = rw e (spot-in-rows (frame_of W H index) W H index p (frame_known W H size index known).1 on e)
-    go false e = rw e (spot-in-columns (frame_of W H index) W H index p (frame_known W H size index known).1 on e)
+    go true e = rw e (spot_in_rows (frame_of W H index) W H index p (frame_known W H size index known).1 on e)
+    go false e = rw e (spot_in_columns (frame_of W H index) W H index p (frame_known W H size index known).1 on e)
 
 -- ---- the sides of a spot
 
@@ -96,14 +96,14 @@ module _ (r : Frame) (back : Bool) (s : Spot) (a : Area) (is : a ≡ trace_area 
     unfolding trace_plan
     trace_ranked d e along_rows planes = rw (e, is, d)
 
-    pub trace-straight : r.diagonal ≡ false → n ≡ min L (a.bottom - a.top) → (along_rows : Bool) (planes : ℕ) →
+    pub trace_straight : r.diagonal ≡ false → n ≡ min L (a.bottom - a.top) → (along_rows : Bool) (planes : ℕ) →
         straight_plan r back a n planes ≡ trace_plan r along_rows back L planes s
     unfolding trace_plan
-    trace-straight d e along_rows planes = rw (e, is, d)
+    trace_straight d e along_rows planes = rw (e, is, d)
 
-    pub states-ranked : r.diagonal ≡ true → n ≡ min L (a.bottom - a.top + (a.right - a.left) - 1) → n ≡ trace_states r back L s
+    pub states_ranked : r.diagonal ≡ true → n ≡ min L (a.bottom - a.top + (a.right - a.left) - 1) → n ≡ trace_states r back L s
     unfolding trace_states
-    states-ranked d e = rw (e, is, d)
+    states_ranked d e = rw (e, is, d)
 
 pub states_straight : (r : Frame) (back : Bool) (L : ℕ) (s : Spot) → r.diagonal ≡ false → 1 ≡ trace_states r back L s
 unfolding trace_states

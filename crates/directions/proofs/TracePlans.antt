@@ -21,12 +21,12 @@ use Rattle.theory.specs.BestWalks.{best_walk_to}
 use Rattle.theory.specs.Walks.{around}
 use Rattle.directions.proofs.GrownLaws.{Keyed, StartsBy}
 use Rattle.directions.proofs.KeptLaws.{RowOn, PlanOn, kept_on, kept_inside, sized_straight, sized_ranked, on_straight, on_ranked}
-use Rattle.directions.proofs.PlanForms.{straight_formed, ranked-formed}
-use Rattle.directions.proofs.RankedLaws.{room_in, ranked-grown}
+use Rattle.directions.proofs.PlanForms.{straight_formed, ranked_formed}
+use Rattle.directions.proofs.RankedLaws.{room_in, ranked_grown}
 use Rattle.directions.proofs.RoomLaws.{Roomy, roomy}
 use Rattle.directions.proofs.SpotRows.{InArea, Beside}
-use Rattle.directions.proofs.StraightLaws.{straight-grown}
-use Rattle.directions.proofs.TraceAreas.{trace-outside-lines, trace-outside-pixels, trace-too-far}
+use Rattle.directions.proofs.StraightLaws.{straight_grown}
+use Rattle.directions.proofs.TraceAreas.{trace_outside_lines, trace_outside_pixels, trace_too_far}
 use Rattle.directions.proofs.TraceLaws.{trace_area_lem}
 use Rattle.directions.proofs.TraceRows.{line_rows, rank_rows, trace_started, trace_first}
 
@@ -120,32 +120,32 @@ module _ (r : Frame) (W H index : ℕ) (F : Framed r W H index) where
     abbrev area : AreaOf r (trace_area r back s)
     area = trace_area_lem r back s S.on_line S.on_pixel
 
-    pub trace-formed : 1 ≤ L → L ≤ 1024 → 1 ≤ planes → planes ≤ 9 → well_formed (trace_plan r along_rows back L planes s) ≡ true
-    trace-formed some few some_planes few_planes =
+    pub trace_formed : 1 ≤ L → L ≤ 1024 → 1 ≤ planes → planes ≤ 9 → well_formed (trace_plan r along_rows back L planes s) ≡ true
+    trace_formed some few some_planes few_planes =
         let b : Bounded r = F.bounded in
         trace_choice r along_rows back L planes s (λ (p : Plan) (n : ℕ). well_formed p ≡ true)
-        (λ d. ranked-formed r along_rows back (trace_area r back s) (rank_rows r back L s) planes b area (O.slim d) (rank_rows_lem r back L s area some).0
+        (λ d. ranked_formed r along_rows back (trace_area r back s) (rank_rows r back L s) planes b area (O.slim d) (rank_rows_lem r back L s area some).0
         (omega arith) some_planes few_planes)
         (λ d. straight_formed r back (trace_area r back s) (line_rows r back L s) planes b area (line_rows_lem r back L s area some).0 (omega arith)
         some_planes few_planes)
 
-    trace-fits : 1 ≤ L → (plan.rows ≤ r.lines) × (plan.linked ≡ true → r.across ≤ r.lines)
-    trace-fits some =
+    trace_fits : 1 ≤ L → (plan.rows ≤ r.lines) × (plan.linked ≡ true → r.across ≤ r.lines)
+    trace_fits some =
         trace_choice r along_rows back L planes s (λ (p : Plan) (n : ℕ). (p.rows ≤ r.lines) × (p.linked ≡ true → r.across ≤ r.lines))
         (λ d. (omega (arith, (rank_rows_lem r back L s area some).1, O.slim d), λ _. O.slim d))
         (λ d. ((line_rows_lem r back L s area some).1, λ f. absurd (true≢false (sym f))))
 
-    pub trace-room : 1 ≤ planes → planes ≤ 9 → 1 ≤ L → L ≤ 1024 → (room : ℕ) → 4 * planes * (r.lines * r.across) ≤ room →
+    pub trace_room : 1 ≤ planes → planes ≤ 9 → 1 ≤ L → L ≤ 1024 → (room : ℕ) → 4 * planes * (r.lines * r.across) ≤ room →
         Roomy (trace_plan r along_rows back L planes s) room
-    trace-room some_planes few_planes some few room h =
+    trace_room some_planes few_planes some few room h =
         let lines = trace_lines r along_rows back L planes s in
         let across = trace_across r along_rows back L planes s in
-        roomy plan room (trace-formed some few some_planes few_planes) (rw lines (trace-fits some).0) (rw (lines, across) (trace-fits some).1)
+        roomy plan room (trace_formed some few some_planes few_planes) (rw lines (trace_fits some).0) (rw (lines, across) (trace_fits some).1)
         (rw (lines, across, trace_planes r along_rows back L planes s) h)
 
-    pub trace-pixels : (e m z : ℕ) → m < rows_in (trace_plan r along_rows back L planes s) e → row_lo (trace_plan r along_rows back L planes s) e m ≤ z →
+    pub trace_pixels : (e m z : ℕ) → m < rows_in (trace_plan r along_rows back L planes s) e → row_lo (trace_plan r along_rows back L planes s) e m ≤ z →
         z < row_hi (trace_plan r along_rows back L planes s) e m → PixelOn r (trace_plan r along_rows back L planes s) W H e m z
-    trace-pixels =
+    trace_pixels =
         trace_choice r along_rows back L planes s
         (λ (p : Plan) (n : ℕ). (e m z : ℕ) → m < rows_in p e → row_lo p e m ≤ z → z < row_hi p e m → PixelOn r p W H e m z)
         (λ d e m z h lo hi.
@@ -164,16 +164,16 @@ module _ (r : Frame) (W H index : ℕ) (F : Framed r W H index) where
           best_walk_to (trace_area r back s).slack (around back W H (2 ^ index)) g (λ q. eqb q x) n j (place_in r i z) ≡ 0
       outside d n j i z hi hz out =
           ⊎_elim
-          (λ o. trace-outside-lines (trace_area r back s).slack r W H index F O back s x S g n j i z hi hz (inl o))
+          (λ o. trace_outside_lines (trace_area r back s).slack r W H index F O back s x S g n j i z hi hz (inl o))
           (⊎_elim
-          (λ o. trace-outside-lines (trace_area r back s).slack r W H index F O back s x S g n j i z hi hz (inr o))
-          (λ o. trace-outside-pixels (trace_area r back s).slack r W H index F O back s x S g d n j i z hi hz o))
+          (λ o. trace_outside_lines (trace_area r back s).slack r W H index F O back s x S g n j i z hi hz (inr o))
+          (λ o. trace_outside_pixels (trace_area r back s).slack r W H index F O back s x S g d n j i z hi hz o))
           out
 
       too_far : r.diagonal ≡ true → (n j i z : ℕ) → InArea (trace_area r back s) i z → room_in (trace_area r back s) back i z < n →
           best_walk_to (trace_area r back s).slack (around back W H (2 ^ index)) g (λ q. eqb q x) n j (place_in r i z) ≡ 0
       too_far d n j i z inside h =
-          trace-too-far (trace_area r back s).slack r W H index F O back s x S g d n j i z (omega (arith, inside.over_bottom, area.low))
+          trace_too_far (trace_area r back s).slack r W H index F O back s x S g d n j i z (omega (arith, inside.over_bottom, area.low))
           (omega (arith, inside.before_right, area.narrow)) h
 
       -- the states of a plan are a sequence, if its walks of no steps start at the picked pixel and its keys are those of its pixels
@@ -188,21 +188,21 @@ module _ (r : Frame) (W H index : ℕ) (F : Framed r W H index) where
           (λ d keyed started.
           record {
             grown = λ e h.
-                ranked-grown r W H index F d along_rows back g (λ q. eqb q x) (trace_area r back s) area (rank_rows r back L s) planes (outside d) (too_far d)
+                ranked_grown r W H index F d along_rows back g (λ q. eqb q x) (trace_area r back s) area (rank_rows r back L s) planes (outside d) (too_far d)
                 e keys (keyed e h) (started e h);
           })
           (λ d keyed started.
           record {
             grown = λ e h.
-                straight-grown r W H index F d back g (λ q. eqb q x) (trace_area r back s) area (line_rows r back L s) planes e keys (keyed e h) (started e h)
+                straight_grown r W H index F d back g (λ q. eqb q x) (trace_area r back s) area (line_rows r back L s) planes e keys (keyed e h) (started e h)
                 (number_at r (straight_plan r back (trace_area r back s) (line_rows r back L s) planes) (around back W H (2 ^ index)) g (λ q. eqb q x) (e - 1));
           })
 
-      pub trace-sequence : ((q : ℕ) → keys q ≡ g (place_kept r (trace_plan r along_rows back L planes s).ranked q)) →
+      pub trace_sequence : ((q : ℕ) → keys q ≡ g (place_kept r (trace_plan r along_rows back L planes s).ranked q)) →
           Sequence (trace_plan r along_rows back L planes s) keys (trace_states r back L s)
           (number_at r (trace_plan r along_rows back L planes s) (around back W H (2 ^ index)) g (λ q. eqb q x))
-      trace-sequence are =
+      trace_sequence are =
           follows
-          (λ e h m z k lo hi. are (row_at plan e m + z) ∙ ap g (trace-pixels e m z k lo hi).key_place)
+          (λ e h m z k lo hi. are (row_at plan e m + z) ∙ ap g (trace_pixels e m z k lo hi).key_place)
           (λ e h m z k lo hi st.
           (trace_started r W H index O s x S along_rows back L planes).is e m z k lo hi st (trace_first r along_rows back L planes s e h))

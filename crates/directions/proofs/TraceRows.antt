@@ -28,27 +28,27 @@ abbrev pub rank_rows : Frame → Bool → ℕ → Spot → ℕ
 rank_rows r back L s = min L ((trace_area r back s).right - (trace_area r back s).left)
 
 module _ (r : Frame) (along_rows back : Bool) (L planes : ℕ) (s : Spot) where
-  pub trace-straight-plan :
+  pub trace_straight_plan :
       r.diagonal ≡ false → trace_plan r along_rows back L planes s ≡ straight_plan r back (trace_area r back s) (line_rows r back L s) planes
   unfolding trace_plan
-  trace-straight-plan d = rw d
+  trace_straight_plan d = rw d
 
-  pub trace-ranked-plan :
+  pub trace_ranked_plan :
       r.diagonal ≡ true → trace_plan r along_rows back L planes s ≡ ranked_plan r along_rows back (trace_area r back s) (rank_rows r back L s) planes
   unfolding trace_plan
-  trace-ranked-plan d = rw d
+  trace_ranked_plan d = rw d
 
 module _ (r : Frame) (back : Bool) (L : ℕ) (s : Spot) where
   pub trace_straight_states : r.diagonal ≡ false → trace_states r back L s ≡ 1
   unfolding trace_states
   trace_straight_states d = rw d
 
-  pub trace-ranked-states :
+  pub trace_ranked_states :
       r.diagonal ≡ true →
       trace_states r back L s
       ≡ min L ((trace_area r back s).bottom - (trace_area r back s).top + ((trace_area r back s).right - (trace_area r back s).left) - 1)
   unfolding trace_states
-  trace-ranked-states d = rw d
+  trace_ranked_states d = rw d
 
 -- ---- where walks start
 
@@ -155,10 +155,10 @@ module _ (r : Frame) (W H index : ℕ) (O : FrameOf r W H index) (s : Spot) (tar
 module _ (r : Frame) (W H index : ℕ) (O : FrameOf r W H index) (s : Spot) (target : ℕ) (S : SpotOf r s target) (along_rows back : Bool) (L planes : ℕ) where
   started_by : (b : Bool) → r.diagonal ≡ b → StartsFrom r (trace_plan r along_rows back L planes s) target
   started_by true d =
-      subst (λ (p : Plan). StartsFrom r p target) (sym (trace-ranked-plan r along_rows back L planes s d))
+      subst (λ (p : Plan). StartsFrom r p target) (sym (trace_ranked_plan r along_rows back L planes s d))
       (ranked_started r W H index O s target S planes (rank_rows r back L s) along_rows back)
   started_by false d =
-      subst (λ (p : Plan). StartsFrom r p target) (sym (trace-straight-plan r along_rows back L planes s d))
+      subst (λ (p : Plan). StartsFrom r p target) (sym (trace_straight_plan r along_rows back L planes s d))
       (straight_started r W H index O s target S planes (line_rows r back L s) back)
 
   pub trace_started : StartsFrom r (trace_plan r along_rows back L planes s) target
@@ -171,7 +171,7 @@ pub trace_first :
 trace_first r along_rows back L planes s e h k = go r.diagonal refl
   where
     go : (b : Bool) → r.diagonal ≡ b → e ≡ 0
-    go true d = clash true refl (sym (ap (λ (p : Plan). p.ranked) (trace-ranked-plan r along_rows back L planes s d)) ∙ k)
+    go true d = clash true refl (sym (ap (λ (p : Plan). p.ranked) (trace_ranked_plan r along_rows back L planes s d)) ∙ k)
     go false d = omega (arith, h, trace_straight_states r back L s d)
 
 -- ---- the row of a number
@@ -202,11 +202,11 @@ row_in : (L a b n m : ℕ) → m < L → m < b → n + m < a + b - 1 → m < min
 row_in L a b n m h k l = omega arith
 
 module _ (r : Frame) (s : Spot) (planes L n i x : ℕ) (few : n < L) (hi : i < r.lines) (hx : x < r.across) where
-  straight-row :
+  straight_row :
       (back : Bool) → r.diagonal ≡ false → Cone r back s n i x →
       HasRow r (straight_plan r back (trace_area r back s) (line_rows r back L s) planes) 1 n i x
   unfolding rows_in line_of order_of first_in past_in
-  straight-row true d C =
+  straight_row true d C =
       let c = C.straight d in
       let i= : s.line + 1 - 1 - (0 + n) ≡ i = omega (arith, c) in
       record {
@@ -219,7 +219,7 @@ module _ (r : Frame) (s : Spot) (planes L n i x : ℕ) (few : n < L) (hi : i < r
         high = hx;
         place = ap (λ (k : ℕ). place_in r k x) i=;
       }
-  straight-row false d C =
+  straight_row false d C =
       let c = C.straight d in
       let i= : s.line + (0 + n) ≡ i = omega (arith, c) in
       record {
@@ -233,11 +233,11 @@ module _ (r : Frame) (s : Spot) (planes L n i x : ℕ) (few : n < L) (hi : i < r
         place = ap (λ (k : ℕ). place_in r k x) i=;
       }
 
-  ranked-row-back :
+  ranked_row_back :
       (along_rows : Bool) → r.diagonal ≡ true → Cone r true s n i x → (m : ℕ) → i + x + (n + m) ≡ s.line + s.pixel →
       HasRow r (ranked_plan r along_rows true (trace_area r true s) (rank_rows r true L s) planes) (min L (s.line + 1 - 0 + (s.pixel + 1 - 0) - 1)) n i x
   unfolding rows_in line_of order_of first_in past_in
-  ranked-row-back along_rows d C m e =
+  ranked_row_back along_rows d C m e =
       let c = C.diagonal d in
       let line = s.line + 1 + (s.pixel + 1) - 2 - (n + m) in
       let line= : line ≡ i + x = omega (arith, e) in
@@ -252,11 +252,11 @@ module _ (r : Frame) (s : Spot) (planes L n i x : ℕ) (few : n < L) (hi : i < r
         place = rank_place r line i x line=;
       }
 
-  ranked-row-on :
+  ranked_row_on :
       (along_rows : Bool) → r.diagonal ≡ true → Cone r false s n i x → (m : ℕ) → s.line + s.pixel + (n + m) ≡ i + x →
       HasRow r (ranked_plan r along_rows false (trace_area r false s) (rank_rows r false L s) planes) (min L (r.lines - s.line + (r.across - s.pixel) - 1)) n i x
   unfolding rows_in line_of order_of first_in past_in
-  ranked-row-on along_rows d C m e =
+  ranked_row_on along_rows d C m e =
       let c = C.diagonal d in
       let line = s.line + s.pixel + (n + m) in
       record {
@@ -274,16 +274,16 @@ module _ (r : Frame) (s : Spot) (planes L n i x : ℕ) (few : n < L) (hi : i < r
       (along_rows back : Bool) → r.diagonal ≡ true → Cone r back s n i x →
       HasRow r (ranked_plan r along_rows back (trace_area r back s) (rank_rows r back L s) planes)
       (min L ((trace_area r back s).bottom - (trace_area r back s).top + ((trace_area r back s).right - (trace_area r back s).left) - 1)) n i x
-  ranked_row along_rows true d C = ranked-row-back along_rows d C (s.line + s.pixel - (i + x) - n) (omega (arith, C.diagonal d))
-  ranked_row along_rows false d C = ranked-row-on along_rows d C (i + x - (s.line + s.pixel) - n) (omega (arith, C.diagonal d))
+  ranked_row along_rows true d C = ranked_row_back along_rows d C (s.line + s.pixel - (i + x) - n) (omega (arith, C.diagonal d))
+  ranked_row along_rows false d C = ranked_row_on along_rows d C (i + x - (s.line + s.pixel) - n) (omega (arith, C.diagonal d))
 
-  cone-row :
+  cone_row :
       (along_rows back b : Bool) → r.diagonal ≡ b → Cone r back s n i x →
       HasRow r (trace_plan r along_rows back L planes s) (trace_states r back L s) n i x
-  cone-row along_rows back true d C =
-      rw (trace-ranked-plan r along_rows back L planes s d, trace-ranked-states r back L s d) (ranked_row along_rows back d C)
-  cone-row along_rows back false d C =
-      rw (trace-straight-plan r along_rows back L planes s d, trace_straight_states r back L s d) (straight-row back d C)
+  cone_row along_rows back true d C =
+      rw (trace_ranked_plan r along_rows back L planes s d, trace_ranked_states r back L s d) (ranked_row along_rows back d C)
+  cone_row along_rows back false d C =
+      rw (trace_straight_plan r along_rows back L planes s d, trace_straight_states r back L s d) (straight_row back d C)
 
 -- every number that is not 0 has its row
 pub trace_rows :
@@ -291,6 +291,6 @@ pub trace_rows :
     (target : ℕ) → SpotOf r s target → (g : ℕ → ℕ) (n i x : ℕ) → n < L → i < r.lines → x < r.across →
     ((j : ℕ) → traced 65535 W H index back g target n j (place_in r i x) ≡ 0) ⊎ HasRow r (trace_plan r along_rows back L planes s) (trace_states r back L s) n i x
 trace_rows r W H index F O along_rows back L planes s target S g n i x few hi hx =
-    ⊎_elim (λ C. inr (cone-row r s planes L n i x few hi hx along_rows back r.diagonal refl C))
+    ⊎_elim (λ C. inr (cone_row r s planes L n i x few hi hx along_rows back r.diagonal refl C))
     (λ off. inl (λ j. trace_none 65535 r W H index F O back s target S g n j i x hi hx off))
     (cone_or_not r back s n i x r.diagonal refl)

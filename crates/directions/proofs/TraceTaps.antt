@@ -22,7 +22,7 @@ use Rattle.directions.specs.declared.plan.Area.{Area}
 use Rattle.directions.specs.declared.frame.Spot.{Spot}
 use Rattle.theory.specs.Walks.{around}
 use Rattle.directions.proofs.KeptLaws.{RowOn, on_straight, on_ranked}
-use Rattle.directions.proofs.RankedLaws.{rank_on, rank-two-on}
+use Rattle.directions.proofs.RankedLaws.{rank_on, rank_two_on}
 use Rattle.directions.proofs.StepPlaces.{clash, place_step}
 use Rattle.directions.proofs.StraightLaws.{line_before}
 use Rattle.directions.proofs.TraceLaws.{trace_area_lem}
@@ -231,13 +231,13 @@ module _ (r : Frame) (W H index : ℕ) (F : Framed r W H index) (back : Bool) (a
     ranks = ranked_plan r along_rows back a rows planes
 
     -- a step whose lines and pixels are those of the direction
-    ranked-by : (y d : ℕ) → Tap ranks y d e m z e' m' z' → e ≡ suc e' →
+    ranked_by : (y d : ℕ) → Tap ranks y d e m z e' m' z' → e ≡ suc e' →
         (z ≤ line_at ranks e m → z' ≤ line_at ranks e' m' →
         ((line_at ranks e' m' - z' ≡ line_at ranks e m - z) × (past back z ≡ suc z'))
         ⊎ (((past back (line_at ranks e m - z) ≡ suc (line_at ranks e' m' - z')) × (z' ≡ z))
         ⊎ ((past back (line_at ranks e m - z) ≡ suc (line_at ranks e' m' - z')) × (past back z ≡ suc z')))) →
         Leads r ranks back W H index e m z e' m' z'
-    ranked-by y d t is led =
+    ranked_by y d t is led =
         let here : RowOn r ranks e m z = on_ranked r a area rows planes along_rows back e m z t.low t.high in
         let there : RowOn r ranks e' m' z' = on_ranked r a area rows planes along_rows back e' m' z' t.low' t.high' in
         record {
@@ -258,23 +258,23 @@ module _ (r : Frame) (W H index : ℕ) (F : Framed r W H index) (back : Bool) (a
         let o = t.beside refl in
         rank_on r along_rows back a rows planes area e e' m t.row o.0 ∙ ap (λ (k : ℕ). suc (line_at ranks e' k)) (sym o.1)
 
-    along-tap : Tap ranks 2 (cond back 2 0) e m z e' m' z' → Leads r ranks back W H index e m z e' m' z'
-    along-tap t =
-        ranked-by 2 (cond back 2 0) t (t.beside refl).0
+    along_tap : Tap ranks 2 (cond back 2 0) e m z e' m' z' → Leads r ranks back W H index e m z e' m' z'
+    along_tap t =
+        ranked_by 2 (cond back 2 0) t (t.beside refl).0
         (λ h k. inl (rank_along back (line_at ranks e m) (line_at ranks e' m') z z' (one_on (cond back 2 0) t) t.aside h k))
 
-    across-tap : Tap ranks 2 1 e m z e' m' z' → Leads r ranks back W H index e m z e' m' z'
-    across-tap t =
-        ranked-by 2 1 t (t.beside refl).0
+    across_tap : Tap ranks 2 1 e m z e' m' z' → Leads r ranks back W H index e m z e' m' z'
+    across_tap t =
+        ranked_by 2 1 t (t.beside refl).0
         (λ h k. inr (inl (rank_across back (line_at ranks e m) (line_at ranks e' m') z z' (one_on 1 t) t.aside h k)))
 
-    both-tap : Tap ranks 1 (cond back 2 0) e m z e' m' z' → Leads r ranks back W H index e m z e' m' z'
-    both-tap t =
+    both_tap : Tap ranks 1 (cond back 2 0) e m z e' m' z' → Leads r ranks back W H index e m z e' m' z'
+    both_tap t =
         let o = t.before refl in
-        ranked-by 1 (cond back 2 0) t o.0
+        ranked_by 1 (cond back 2 0) t o.0
         (λ h k.
         inr (inr (rank_both back (line_at ranks e m) (line_at ranks e' m') z z'
-        (rank-two-on r along_rows back a rows planes area e e' m t.row o.0 m' o.1) t.aside h k)))
+        (rank_two_on r along_rows back a rows planes area e e' m t.row o.0 m' o.1) t.aside h k)))
 
 -- ---- the plan of a trace
 
@@ -296,41 +296,41 @@ module _ (r : Frame) (W H index : ℕ) (F : Framed r W H index) (along_rows back
 
   ranked_first : r.diagonal ≡ true → (rows : Bool) → Tap (ranked-plan rows) (ranked-plan rows).reach.y0 (ranked-plan rows).reach.x0 e m z e' m' z' →
       Leads r (ranked-plan rows) back W H index e m z e' m' z'
-  ranked_first d true t = along-tap r W H index F back (trace_area r back s) area (rank_rows r back L s) planes d true e m z e' m' z' t
-  ranked_first d false t = across-tap r W H index F back (trace_area r back s) area (rank_rows r back L s) planes d false e m z e' m' z' t
+  ranked_first d true t = along_tap r W H index F back (trace_area r back s) area (rank_rows r back L s) planes d true e m z e' m' z' t
+  ranked_first d false t = across_tap r W H index F back (trace_area r back s) area (rank_rows r back L s) planes d false e m z e' m' z' t
 
   ranked_second : r.diagonal ≡ true → (rows : Bool) → Tap (ranked-plan rows) (ranked-plan rows).reach.y1 (ranked-plan rows).reach.x1 e m z e' m' z' →
       Leads r (ranked-plan rows) back W H index e m z e' m' z'
-  ranked_second d true t = both-tap r W H index F back (trace_area r back s) area (rank_rows r back L s) planes d true e m z e' m' z' t
-  ranked_second d false t = both-tap r W H index F back (trace_area r back s) area (rank_rows r back L s) planes d false e m z e' m' z' t
+  ranked_second d true t = both_tap r W H index F back (trace_area r back s) area (rank_rows r back L s) planes d true e m z e' m' z' t
+  ranked_second d false t = both_tap r W H index F back (trace_area r back s) area (rank_rows r back L s) planes d false e m z e' m' z' t
 
   ranked_third : r.diagonal ≡ true → (rows : Bool) → Tap (ranked-plan rows) (ranked-plan rows).reach.y2 (ranked-plan rows).reach.x2 e m z e' m' z' →
       Leads r (ranked-plan rows) back W H index e m z e' m' z'
-  ranked_third d true t = across-tap r W H index F back (trace_area r back s) area (rank_rows r back L s) planes d true e m z e' m' z' t
-  ranked_third d false t = along-tap r W H index F back (trace_area r back s) area (rank_rows r back L s) planes d false e m z e' m' z' t
+  ranked_third d true t = across_tap r W H index F back (trace_area r back s) area (rank_rows r back L s) planes d true e m z e' m' z' t
+  ranked_third d false t = along_tap r W H index F back (trace_area r back s) area (rank_rows r back L s) planes d false e m z e' m' z' t
 
-  pub first-tap :
+  pub first_tap :
       Tap (trace_plan r along_rows back L planes s) (trace_plan r along_rows back L planes s).reach.y0 (trace_plan r along_rows back L planes s).reach.x0
       e m z e' m' z' → Leads r (trace_plan r along_rows back L planes s) back W H index e m z e' m' z'
-  first-tap =
+  first_tap =
       trace_choice r along_rows back L planes s
       (λ (p : Plan) (n : ℕ). Tap p p.reach.y0 p.reach.x0 e m z e' m' z' → Leads r p back W H index e m z e' m' z')
       (λ d t. ranked_first d along_rows t)
       (λ d t. straight_tap r W H index F back (trace_area r back s) area (line_rows r back L s) planes d _ e m z e' m' z' (few_left back) t)
 
-  pub second-tap :
+  pub second_tap :
       Tap (trace_plan r along_rows back L planes s) (trace_plan r along_rows back L planes s).reach.y1 (trace_plan r along_rows back L planes s).reach.x1
       e m z e' m' z' → Leads r (trace_plan r along_rows back L planes s) back W H index e m z e' m' z'
-  second-tap =
+  second_tap =
       trace_choice r along_rows back L planes s
       (λ (p : Plan) (n : ℕ). Tap p p.reach.y1 p.reach.x1 e m z e' m' z' → Leads r p back W H index e m z e' m' z')
       (λ d t. ranked_second d along_rows t)
       (λ d t. straight_tap r W H index F back (trace_area r back s) area (line_rows r back L s) planes d 1 e m z e' m' z' (omega arith) t)
 
-  pub third-tap :
+  pub third_tap :
       Tap (trace_plan r along_rows back L planes s) (trace_plan r along_rows back L planes s).reach.y2 (trace_plan r along_rows back L planes s).reach.x2
       e m z e' m' z' → Leads r (trace_plan r along_rows back L planes s) back W H index e m z e' m' z'
-  third-tap =
+  third_tap =
       trace_choice r along_rows back L planes s
       (λ (p : Plan) (n : ℕ). Tap p p.reach.y2 p.reach.x2 e m z e' m' z' → Leads r p back W H index e m z e' m' z')
       (λ d t. ranked_third d along_rows t)

@@ -16,10 +16,10 @@ use Rattle.plate.specs.Levels.{lowest, level, key}
 use Rattle.plate.specs.Directions.{chosen}
 use Rattle.plate.specs.Opening.{level_at, opened_at, filtered}
 use Rattle.plate.specs.declared.setting.Setting.{Setting}
-use Rattle.theory.proofs.Decomposition.{opened-value}
+use Rattle.theory.proofs.Decomposition.{opened_value}
 use Rattle.theory.proofs.Terms.{value_same}
 use Rattle.theory.proofs.Opening.{levels_within}
-use Rattle.theory.proofs.Mirror.{turned_levels, filtered-length, levelAt-filtered}
+use Rattle.theory.proofs.Mirror.{turned_levels, filtered_length, level_at_filtered}
 use Rattle.frames.specs.Keys.{key_by, level_by}
 use Rattle.engine.specs.Finishing.{best_of_all, Blank, Gathered, Finished}
 use Rattle.theory.specs.BestWalks.{key_at, gap_end, value}
@@ -41,25 +41,25 @@ module _ (s : Setting) (W H : ℕ) (plate : List ℤ) (sized : length plate ≡ 
   abbrev g : ℕ → ℕ
   g p = key_by s.mode (level_at plate p)
 
-  abbrev turnedPlate : List ℤ
-  turnedPlate = map (as_mode s) plate
+  abbrev turned_plate : List ℤ
+  turned_plate = map (as_mode s) plate
 
   -- the opened key of the turned plate
   abbrev value_at : ℕ → ℕ
   value_at x = value (gap_end s.ends) W H (chosen s.directions) (s.length - 1) s.gaps g x
 
-  same_keys : (p : ℕ) → p < W * H → key_at turnedPlate p ≡ g p
+  same_keys : (p : ℕ) → p < W * H → key_at turned_plate p ≡ g p
   same_keys p on =
       ap key (map_at (as_mode s) plate p lowest lowest (omega arith)) ∙ turned_key s (level_at plate p)
 
-  opened_key : (x : ℕ) → x < W * H → 1 ≤ s.length → opened_at s W H turnedPlate x ≡ level (value_at x)
+  opened_key : (x : ℕ) → x < W * H → 1 ≤ s.length → opened_at s W H turned_plate x ≡ level (value_at x)
   opened_key x on long =
-      opened-value turnedPlate (turned_levels s plate levels).size s W H (s.length - 1) x on (let e : s.length ≡ suc (s.length - 1) = omega arith in e)
-      ∙ ap level (value_same (gap_end s.ends) W H (chosen s.directions) (s.length - 1) s.gaps x on (key_at turnedPlate) g same_keys)
+      opened_value turned_plate (turned_levels s plate levels).size s W H (s.length - 1) x on (let e : s.length ≡ suc (s.length - 1) = omega arith in e)
+      ∙ ap level (value_same (gap_end s.ends) W H (chosen s.directions) (s.length - 1) s.gaps x on (key_at turned_plate) g same_keys)
 
-  filtered_level : (x : ℕ) → x < W * H → 1 ≤ s.length → level_at (filtered s W H plate) x ≡ level_by s.mode (value_at x)
-  filtered_level x on long =
-      levelAt-filtered s W H plate x on ∙ ap (as_mode s) (opened_key x on long) ∙ turned_level s (value_at x)
+  filtered_level_lem : (x : ℕ) → x < W * H → 1 ≤ s.length → level_at (filtered s W H plate) x ≡ level_by s.mode (value_at x)
+  filtered_level_lem x on long =
+      level_at_filtered s W H plate x on ∙ ap (as_mode s) (opened_key x on long) ∙ turned_level s (value_at x)
 
   value_gathered : (x : ℕ) → value_at x ≡ min (g x) (best_of_all W H s plate x)
   unfolding value best_of_all
@@ -73,11 +73,11 @@ module _ (s : Setting) (W H : ℕ) (plate old none all new : List ℤ) (sized : 
   level_is : (x : ℕ) → x < W * H → level_at new x ≡ level_at (filtered s W H plate) x
   level_is x on =
       finished.is x (omega arith)
-      ∙ rw (gathered x on) (sym (filtered_level s W H plate sized finished.small x on long ∙ ap (level_by s.mode) (value_gathered s W H plate sized finished.small x)))
+      ∙ rw (gathered x on) (sym (filtered_level_lem s W H plate sized finished.small x on long ∙ ap (level_by s.mode) (value_gathered s W H plate sized finished.small x)))
 
   size_is : length new ≡ W * H
   size_is = finished.len ∙ raised.len ∙ blank.len ∙ room
 
   pub all_filtered : new ≡ filtered s W H plate
   all_filtered =
-      ext_get_or lowest new (filtered s W H plate) (size_is ∙ sym (filtered-length s W H plate)) (λ x h. level_is x (omega (arith, size_is)))
+      ext_get_or lowest new (filtered s W H plate) (size_is ∙ sym (filtered_length s W H plate)) (λ x h. level_is x (omega (arith, size_is)))

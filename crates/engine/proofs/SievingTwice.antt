@@ -12,7 +12,7 @@ use Rattle.plate.specs.declared.answer.Answer.{Answer}
 use Rattle.plate.specs.declared.answer.Answer.TheVariants.{Done, Refused}
 use Rattle.plate.proofs.Calls.{filter_gaps_below}
 use Rattle.theory.specs.Modes.{Levels}
-use Rattle.theory.specs.SievingTwice.{with_length, filteredBy}
+use Rattle.theory.specs.SievingTwice.{with_length, filtered_by}
 use Rattle.theory.proofs.SievingTwice.{sieved_twice}
 use Rattle.engine.specs.SievingTwice.{FilterCall}
 
@@ -21,24 +21,24 @@ module _ (s : Setting) (free : s.ends ≡ 0) (W H : ℕ) where
   done_below {L} {plate} {old} c = filter_gaps_below W H (with_length s L) (length plate) (length old) (length c.work) c.answers
 
   -- by K and then by L, whichever is larger
-  pub two-calls :
+  pub two_calls :
       {K L : ℕ} {plate between filled old old' : List ℤ} → Levels plate → FilterCall W H (with_length s K) plate Done old between →
-      FilterCall W H (with_length s L) between Done old' filled → filled ≡ filteredBy s W H (max K L) plate
-  two-calls {K} {L} {plate} levels first second =
+      FilterCall W H (with_length s L) between Done old' filled → filled ≡ filtered_by s W H (max K L) plate
+  two_calls {K} {L} {plate} levels first second =
       second.fills
-      ∙ ap (filteredBy s W H L) first.fills
-      ∙ (sieved_twice s W H K L plate levels (record { below_K = done_below first; below_L = done_below second; free_ends = free })).K-then-L
+      ∙ ap (filtered_by s W H L) first.fills
+      ∙ (sieved_twice s W H K L plate levels (record { below_K = done_below first; below_L = done_below second; free_ends = free })).K_then_L
 
   -- so one call by the larger length, where it is accepted, leaves the same
-  pub as-one-call :
+  pub as_one_call :
       {K L : ℕ} {plate between filled once old old' old'' : List ℤ} → Levels plate → FilterCall W H (with_length s K) plate Done old between →
       FilterCall W H (with_length s L) between Done old' filled → FilterCall W H (with_length s (max K L)) plate Done old'' once → filled ≡ once
-  as-one-call levels first second one = two-calls levels first second ∙ sym one.fills
+  as_one_call levels first second one = two_calls levels first second ∙ sym one.fills
 
   -- and with whatever the second call answers: refused, it leaves its result as it was
   pub second_call :
       {K L : ℕ} {plate between filled old old' : List ℤ} → Levels plate → FilterCall W H (with_length s K) plate Done old between →
       (answer : Answer) → FilterCall W H (with_length s L) between answer old' filled →
-      filled ≡ result_after answer (filteredBy s W H (max K L) plate) old'
-  second_call levels first Done second = two-calls levels first second
+      filled ≡ result_after answer (filtered_by s W H (max K L) plate) old'
+  second_call levels first Done second = two_calls levels first second
   second_call levels first (Refused number place) second = second.fills

@@ -108,51 +108,51 @@ bits_more index h = below_four (λ (i : ℕ). take (suc i) bits ≡ take i bits 
 
 module _ (W H : ℕ) (s : Setting) (plate : List ℤ) where
   -- the best paths in the chosen directions before this index
-  unfoldable pub bestBefore : ℕ → ℕ → ℕ
-  bestBefore index x = best (λ bit. best_in W H s plate bit x) (keep (member s.directions) (take index bits))
+  unfoldable pub best_before : ℕ → ℕ → ℕ
+  best_before index x = best (λ bit. best_in W H s plate bit x) (keep (member s.directions) (take index bits))
 
-  pub before_none : (old : List ℤ) → Raised (bestBefore 0) old old 0 (W * H)
-  unfolding bestBefore best keep
-  before_none old = raised_to_nothing (bestBefore 0) old 0 (W * H) (λ x a b. refl)
+  pub before_none : (old : List ℤ) → Raised (best_before 0) old old 0 (W * H)
+  unfolding best_before best keep
+  before_none old = raised_to_nothing (best_before 0) old 0 (W * H) (λ x a b. refl)
 
-  one_more : (index x : ℕ) → index < 4 → bestBefore (index + 1) x ≡ max (best_if_chosen W H s plate (2 ^ index) x) (bestBefore index x)
-  unfolding bestBefore best_if_chosen
+  one_more : (index x : ℕ) → index < 4 → best_before (index + 1) x ≡ max (best_if_chosen W H s plate (2 ^ index) x) (best_before index x)
+  unfolding best_before best_if_chosen
   one_more index x h =
       rw (add-one index, bits_more index h) (best_more (λ bit. best_in W H s plate bit x) (member s.directions) (take index bits) (2 ^ index))
 
-  pub before_more : (old mid new : List ℤ) (index : ℕ) → index < 4 → Raised (bestBefore index) old mid 0 (W * H) →
-      Raised (best_if_chosen W H s plate (2 ^ index)) mid new 0 (W * H) → Raised (bestBefore (index + 1)) old new 0 (W * H)
+  pub before_more : (old mid new : List ℤ) (index : ℕ) → index < 4 → Raised (best_before index) old mid 0 (W * H) →
+      Raised (best_if_chosen W H s plate (2 ^ index)) mid new 0 (W * H) → Raised (best_before (index + 1)) old new 0 (W * H)
   before_more old mid new index h a b =
-      raised_twice (bestBefore index) (best_if_chosen W H s plate (2 ^ index)) (bestBefore (index + 1)) old mid new 0 (W * H) a b
+      raised_twice (best_before index) (best_if_chosen W H s plate (2 ^ index)) (best_before (index + 1)) old mid new 0 (W * H) a b
       (λ x u v. one_more index x h)
 
-  pub before_all : (old new : List ℤ) (index : ℕ) → index ≡ 4 → Raised (bestBefore index) old new 0 (W * H) → Raised (best_of_all W H s plate) old new 0 (W * H)
-  unfolding bestBefore best_of_all chosen table
+  pub before_all : (old new : List ℤ) (index : ℕ) → index ≡ 4 → Raised (best_before index) old new 0 (W * H) → Raised (best_of_all W H s plate) old new 0 (W * H)
+  unfolding best_before best_of_all chosen table
   before_all old new index e r =
-      raised_by (bestBefore index) (best_of_all W H s plate) old new 0 (W * H) r (λ x a b. rw e)
+      raised_by (best_before index) (best_of_all W H s plate) old new 0 (W * H) r (λ x a b. rw e)
 
   -- no direction takes anything away
-  before_grows : (index x : ℕ) → index ≤ 4 → bestBefore index x ≤ bestBefore 4 x
+  before_grows : (index x : ℕ) → index ≤ 4 → best_before index x ≤ best_before 4 x
   before_grows index x h =
-      let a : bestBefore 1 x ≡ max (best_if_chosen W H s plate (2 ^ 0) x) (bestBefore 0 x) = one_more 0 x (omega arith) in
-      let b : bestBefore 2 x ≡ max (best_if_chosen W H s plate (2 ^ 1) x) (bestBefore 1 x) = one_more 1 x (omega arith) in
-      let c : bestBefore 3 x ≡ max (best_if_chosen W H s plate (2 ^ 2) x) (bestBefore 2 x) = one_more 2 x (omega arith) in
-      let d : bestBefore 4 x ≡ max (best_if_chosen W H s plate (2 ^ 3) x) (bestBefore 3 x) = one_more 3 x (omega arith) in
-      ⊎_elim (λ e. let z : index ≡ 4 = omega arith in omega (arith, ap (λ (i : ℕ). bestBefore i x) z))
-      (λ l. below_four (λ (i : ℕ). bestBefore i x ≤ bestBefore 4 x) (omega arith) (omega arith) (omega arith) (omega arith) index l)
+      let a : best_before 1 x ≡ max (best_if_chosen W H s plate (2 ^ 0) x) (best_before 0 x) = one_more 0 x (omega arith) in
+      let b : best_before 2 x ≡ max (best_if_chosen W H s plate (2 ^ 1) x) (best_before 1 x) = one_more 1 x (omega arith) in
+      let c : best_before 3 x ≡ max (best_if_chosen W H s plate (2 ^ 2) x) (best_before 2 x) = one_more 2 x (omega arith) in
+      let d : best_before 4 x ≡ max (best_if_chosen W H s plate (2 ^ 3) x) (best_before 3 x) = one_more 3 x (omega arith) in
+      ⊎_elim (λ e. let z : index ≡ 4 = omega arith in omega (arith, ap (λ (i : ℕ). best_before i x) z))
+      (λ l. below_four (λ (i : ℕ). best_before i x ≤ best_before 4 x) (omega arith) (omega arith) (omega arith) (omega arith) index l)
       (le_or_lt 4 index)
 
-  all_is : (x : ℕ) → best_of_all W H s plate x ≡ bestBefore 4 x
-  unfolding bestBefore best_of_all chosen table
+  all_is : (x : ℕ) → best_of_all W H s plate x ≡ best_before 4 x
+  unfolding best_before best_of_all chosen table
   all_is x = refl
 
   -- all directions; or some, after which every level has reached the pixel's own
-  pub gathered_all : (old new : List ℤ) (index : ℕ) → index ≡ 4 → Raised (bestBefore index) old new 0 (W * H) →
+  pub gathered_all : (old new : List ℤ) (index : ℕ) → index ≡ 4 → Raised (best_before index) old new 0 (W * H) →
       Gathered s.mode plate (best_of_all W H s plate) old new (W * H)
   gathered_all old new index e r =
       record { is = λ x h. omega (arith, (before_all old new index e r).inside x (omega arith) h); len = r.len }
 
-  pub gathered_early : (old new : List ℤ) (index : ℕ) → index ≤ 4 → length plate ≡ W * H → Raised (bestBefore index) old new 0 (W * H) →
+  pub gathered_early : (old new : List ℤ) (index : ℕ) → index ≤ 4 → length plate ≡ W * H → Raised (best_before index) old new 0 (W * H) →
       Complete s.mode plate new → Gathered s.mode plate (best_of_all W H s plate) old new (W * H)
   gathered_early old new index l size r full =
       record {

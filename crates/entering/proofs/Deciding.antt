@@ -35,15 +35,15 @@ module _ (W H : ℕ) (s : Setting) (plate : ℕ) (pixel : Pixel) (b : Book) (roo
 -- ---- once they have decided
 
 module _ (W H : ℕ) (s : Setting) (f : List ℤ) (pixel : Pixel) (b : Book) (room work : ℕ) where
-  abbrev filteredLevel : ℤ
-  filteredLevel = level_at (filtered s W H f) pixel.place
+  abbrev filtered_level : ℤ
+  filtered_level = level_at (filtered s W H f) pixel.place
 
   abbrev checks : Type 0
   checks = Clear (enter_trace_checks W H s (length f) pixel b room work)
 
   pub refuses : {n p : ℕ} → refused n p ≡ verdict W H s (length f) pixel b room work → refused n p ≡ enter_trace_verdict W H s f pixel b room work
   unfolding enter_trace_verdict
-  refuses {n} {p} e = sym (refused_same tt filteredLevel (enter_trace_checks W H s (length f) pixel b room work) n p (sym e))
+  refuses {n} {p} e = sym (refused_same tt filtered_level (enter_trace_checks W H s (length f) pixel b room work) n p (sym e))
 
   pub passes : accepted tt ≡ verdict W H s (length f) pixel b room work → checks
   passes e = (accepted_clear (enter_trace_checks W H s (length f) pixel b room work) tt tt (sym e)).1
@@ -52,8 +52,8 @@ module _ (W H : ℕ) (s : Setting) (f : List ℤ) (pixel : Pixel) (b : Book) (ro
   pub as_traced : checks → trace_verdict W H s f pixel.place room work ≡ enter_trace_verdict W H s f pixel b room work
   unfolding trace_verdict enter_trace_verdict
   as_traced clear =
-      clear_accepted (trace_checks W H s (length f) pixel.place room work) filteredLevel (clear_first (trace_checks W H s (length f) pixel.place room work) (entry_checks b (key_of s pixel)) clear)
-      ∙ sym (clear_accepted (enter_trace_checks W H s (length f) pixel b room work) filteredLevel clear)
+      clear_accepted (trace_checks W H s (length f) pixel.place room work) filtered_level (clear_first (trace_checks W H s (length f) pixel.place room work) (entry_checks b (key_of s pixel)) clear)
+      ∙ sym (clear_accepted (enter_trace_checks W H s (length f) pixel b room work) filtered_level clear)
 
   pub book_takes : checks → Clear (entry_checks b (key_of s pixel))
   book_takes clear = clear_second (trace_checks W H s (length f) pixel.place room work) (entry_checks b (key_of s pixel)) clear
@@ -61,7 +61,7 @@ module _ (W H : ℕ) (s : Setting) (f : List ℤ) (pixel : Pixel) (b : Book) (ro
   -- so does a call that has returned a level
   pub level_takes : (level : ℤ) → accepted level ≡ enter_trace_verdict W H s f pixel b room work → Clear (entry_checks b (key_of s pixel))
   unfolding enter_trace_verdict
-  level_takes level e = book_takes (accepted_clear (enter_trace_checks W H s (length f) pixel b room work) filteredLevel level (sym e)).1
+  level_takes level e = book_takes (accepted_clear (enter_trace_checks W H s (length f) pixel b room work) filtered_level level (sym e)).1
 
 -- a book that takes an entry hands back the one with it
 pub taken : (b : Book) (key : Key) (level : ℤ) (direction : ℕ) (r : Kept) → Clear (entry_checks b key) → r ≡ handed_back (enter_verdict b key level direction) b → r.book ≡ entered b key level direction

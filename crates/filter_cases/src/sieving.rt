@@ -4,7 +4,7 @@
 ghost use Rattle.std.specs.Prelude.{max, ◌≡◌};
 ghost use Rattle.plate.specs.Answers.{result_after};
 ghost use Rattle.theory.specs.Modes.{Levels};
-ghost use Rattle.theory.specs.SievingTwice.{filteredBy};
+ghost use Rattle.theory.specs.SievingTwice.{filtered_by};
 
 use crate::printing::print_answer;
 use crate::settings::{CLOSING, EAST, OPENING, setting};
@@ -35,7 +35,7 @@ fn sieve_twice(
     res: &mut [i16],
     work: &mut [u16],
 ) -> Answer
-    ensures { setting.ends ≡ 0 → res.new ≡ result_after result (filteredBy setting width height (max setting.length other) plate.now) res.old }
+    ensures { setting.ends ≡ 0 → res.new ≡ result_after result (filtered_by setting width height (max setting.length other) plate.now) res.old }
 {
     read_through(plate);
     let answer = engine::filter(width, height, plate, setting, between, work);

@@ -12,7 +12,7 @@ use Rattle.frames.specs.Steps.{columns_on, rows_on, toward}
 use Rattle.theory.specs.Walks.{minus, back, around}
 use Rattle.theory.specs.BestWalks.{best}
 use Rattle.frames.proofs.PlateSpots.{plate_spot}
-use Rattle.frames.proofs.Landing.{Small, Small.one_less, Small.no_change, Small.one_more, landing, step-spot}
+use Rattle.frames.proofs.Landing.{Small, Small.one_less, Small.no_change, Small.one_more, landing, step_spot}
 
 -- ---- the steps of the table
 
@@ -85,7 +85,7 @@ best_around f W H index backwards p known on =
     ap (best f) (around_steps backwards W H index p known)
     ∙ best_three f W H p (toward backwards (step_at index 0)) (toward backwards (step_at index 1)) (toward backwards (step_at index 2))
     ∙ rw (
-      step-spot f W H backwards (step_at index 0) p s₀.column s₀.row on,
-      step-spot f W H backwards (step_at index 1) p s₁.column s₁.row on,
-      step-spot f W H backwards (step_at index 2) p s₂.column s₂.row on,
+      step_spot f W H backwards (step_at index 0) p s₀.column s₀.row on,
+      step_spot f W H backwards (step_at index 1) p s₁.column s₁.row on,
+      step_spot f W H backwards (step_at index 2) p s₂.column s₂.row on,
     )

@@ -14,7 +14,7 @@ use Rattle.frames.specs.Steps.{plus_one, biased, columns_on, rows_on}
 use Rattle.frames.specs.Frames.{counted_from, spot, past, onward, Framed}
 use Rattle.frames.specs.declared.frame.Frame.{Frame}
 use Rattle.theory.specs.Ranks.{rank_at}
-use Rattle.frames.proofs.PlateLines.{three, rows, rows_bounded, rows_on_lem, rows_whole, rows-near, rows_rank, columns, columns_bounded, columns_on_lem, columns_whole, columns-near, columns_rank}
+use Rattle.frames.proofs.PlateLines.{three, rows, rows_bounded, rows_on_lem, rows_whole, rows_near, rows_rank, columns, columns_bounded, columns_on_lem, columns_whole, columns_near, columns_rank}
 
 -- how far a step goes on to the next line or pixel, plus one
 abbrev beyond : Bool → ℕ
@@ -50,37 +50,37 @@ room_left true n m i x h k = omega arith
 room_left false n m i x h k = omega arith
 
 module _ (W H : ℕ) (sized : GoodSize W H) (flipped mirrored diagonal : Bool) (index : ℕ) (known : index < 4) where
-  rows-framed :
+  rows_framed :
       ((f : ℕ → ℕ) (back : Bool) (i x : ℕ) →
       three (λ n. spot f (rows W H flipped mirrored diagonal) (i + counted_from flipped 3 (rows_on index n back)) (x + counted_from mirrored 3 (columns_on index n back)))
       ≡ onward f (rows W H flipped mirrored diagonal) back i x) →
       ((i x : ℕ) → i < H → x < W → rank_at H (2 ^ index) (counted_from mirrored W x) (counted_from flipped H i) ≡ H - 1 - i + cond diagonal (W - 1 - x) 0) →
       span W H (2 ^ index) ≡ H + cond diagonal (W - 1) 0 → Framed (rows W H flipped mirrored diagonal) W H index
-  rows-framed n back l =
+  rows_framed n back l =
       record {
         bounded = rows_bounded W H flipped mirrored diagonal sized;
         area = omega arith;
         lies = rows_on_lem W H flipped mirrored diagonal;
         whole = rows_whole W H flipped mirrored diagonal;
-        near = λ f b i x h k. rows-near W H flipped mirrored diagonal index known f b i x h k ∙ n f b i x;
+        near = λ f b i x h k. rows_near W H flipped mirrored diagonal index known f b i x h k ∙ n f b i x;
         room_on = λ i x h k. rw (rows_rank W H flipped mirrored diagonal (2 ^ index) i x h k, l, back i x h k) (room_left diagonal H W i x h k);
         room_back = λ i x h k. rows_rank W H flipped mirrored diagonal (2 ^ index) i x h k ∙ back i x h k;
         long = l;
       }
 
-  columns-framed :
+  columns_framed :
       ((f : ℕ → ℕ) (back : Bool) (i x : ℕ) →
       three (λ n. spot f (columns W H flipped mirrored diagonal) (i + counted_from flipped 3 (columns_on index n back)) (x + counted_from mirrored 3 (rows_on index n back)))
       ≡ onward f (columns W H flipped mirrored diagonal) back i x) →
       ((i x : ℕ) → i < W → x < H → rank_at H (2 ^ index) (counted_from flipped W i) (counted_from mirrored H x) ≡ W - 1 - i + cond diagonal (H - 1 - x) 0) →
       span W H (2 ^ index) ≡ W + cond diagonal (H - 1) 0 → Framed (columns W H flipped mirrored diagonal) W H index
-  columns-framed n back l =
+  columns_framed n back l =
       record {
         bounded = columns_bounded W H flipped mirrored diagonal sized;
         area = refl;
         lies = columns_on_lem W H flipped mirrored diagonal;
         whole = columns_whole W H flipped mirrored diagonal;
-        near = λ f b i x h k. columns-near W H flipped mirrored diagonal index known f b i x h k ∙ n f b i x;
+        near = λ f b i x h k. columns_near W H flipped mirrored diagonal index known f b i x h k ∙ n f b i x;
         room_on = λ i x h k. rw (columns_rank W H flipped mirrored diagonal (2 ^ index) i x h k, l, back i x h k) (room_left diagonal W H i x h k);
         room_back = λ i x h k. columns_rank W H flipped mirrored diagonal (2 ^ index) i x h k ∙ back i x h k;
         long = l;
@@ -92,7 +92,7 @@ module _ (W H : ℕ) (sized : GoodSize W H) where
   north_rows : Framed (rows W H false false false) W H 0
   unfolding counted_from columns_on rows_on biased plus_one step_at table rank_at span
   north_rows =
-      rows-framed W H sized false false false 0 (omega arith)
+      rows_framed W H sized false false false 0 (omega arith)
       (λ f back i x. elim back [
         | true ↦ omega (arith, straight_onward f (rows W H false false false) true i x refl)
         | false ↦ omega (arith, straight_onward f (rows W H false false false) false i x refl)
@@ -103,7 +103,7 @@ module _ (W H : ℕ) (sized : GoodSize W H) where
   east_columns : Framed (columns W H true false false) W H 1
   unfolding counted_from columns_on rows_on biased plus_one step_at table rank_at span
   east_columns =
-      columns-framed W H sized true false false 1 (omega arith)
+      columns_framed W H sized true false false 1 (omega arith)
       (λ f back i x. elim back [
         | true ↦ omega (arith, straight_onward f (columns W H true false false) true i x refl)
         | false ↦ omega (arith, straight_onward f (columns W H true false false) false i x refl)
@@ -114,7 +114,7 @@ module _ (W H : ℕ) (sized : GoodSize W H) where
   north_east_rows : Framed (rows W H false true true) W H 2
   unfolding counted_from columns_on rows_on biased plus_one step_at table rank_at span
   north_east_rows =
-      rows-framed W H sized false true true 2 (omega arith)
+      rows_framed W H sized false true true 2 (omega arith)
       (λ f back i x. elim back [
         | true ↦ omega (arith, diagonal_onward f (rows W H false true true) true i x refl)
         | false ↦ omega (arith, diagonal_onward f (rows W H false true true) false i x refl)
@@ -125,7 +125,7 @@ module _ (W H : ℕ) (sized : GoodSize W H) where
   north_east_columns : Framed (columns W H true false true) W H 2
   unfolding counted_from columns_on rows_on biased plus_one step_at table rank_at span
   north_east_columns =
-      columns-framed W H sized true false true 2 (omega arith)
+      columns_framed W H sized true false true 2 (omega arith)
       (λ f back i x. elim back [
         | true ↦ omega (arith, diagonal_onward f (columns W H true false true) true i x refl)
         | false ↦ omega (arith, diagonal_onward f (columns W H true false true) false i x refl)
@@ -136,7 +136,7 @@ module _ (W H : ℕ) (sized : GoodSize W H) where
   south_east_rows : Framed (rows W H true true true) W H 3
   unfolding counted_from columns_on rows_on biased plus_one step_at table rank_at span
   south_east_rows =
-      rows-framed W H sized true true true 3 (omega arith)
+      rows_framed W H sized true true true 3 (omega arith)
       (λ f back i x. elim back [
         | true ↦ omega (arith, diagonal_onward f (rows W H true true true) true i x refl)
         | false ↦ omega (arith, diagonal_onward f (rows W H true true true) false i x refl)
@@ -147,7 +147,7 @@ module _ (W H : ℕ) (sized : GoodSize W H) where
   south_east_columns : Framed (columns W H true true true) W H 3
   unfolding counted_from columns_on rows_on biased plus_one step_at table rank_at span
   south_east_columns =
-      columns-framed W H sized true true true 3 (omega arith)
+      columns_framed W H sized true true true 3 (omega arith)
       (λ f back i x. elim back [
         | true ↦ omega (arith, diagonal_onward f (columns W H true true true) true i x refl)
         | false ↦ omega (arith, diagonal_onward f (columns W H true true true) false i x refl)

@@ -95,8 +95,8 @@ module _ (f : ℕ → ℕ) (W H : ℕ) where
       ]
 
   -- what a step leads to
-  pub step-spot :
+  pub step_spot :
       (back : Bool) (s : Step) (p : ℕ) → Small s.column → Small s.row → p < W * H →
       landing f (step_from W H p (toward back s)) ≡ plate_spot f W H (p / W + biased back s.row) (p % W + biased back s.column)
-  step-spot back s p dc dr l =
+  step_spot back s p dc dr l =
       rw (step_place W H back s p dc dr l) (landing_spot (p / W + biased back s.row) (p % W + biased back s.column))

@@ -18,7 +18,7 @@ use Rattle.frames.specs.declared.frame.Frame.{Frame}
 use Rattle.theory.specs.BestWalks.{best}
 use Rattle.theory.specs.Ranks.{rank, rank_at}
 use Rattle.theory.specs.Walks.{around}
-use Rattle.frames.proofs.SpotLaws.{turned_below, turned_twice, turned_step, rowsFrame, columnsFrame, rows_place, columns_place, rows-spot, columns-spot}
+use Rattle.frames.proofs.SpotLaws.{turned_below, turned_twice, turned_step, rows_frame, columns_frame, rows_place, columns_place, rows_spot, columns_spot}
 
 -- ---- a place with its row and column
 
@@ -75,7 +75,7 @@ three g = max (max (g 0) (g 1)) (g 2)
 
 module _ (W H : ℕ) (flipped mirrored diagonal : Bool) where
   abbrev pub rows : Frame
-  rows = rowsFrame W H flipped mirrored diagonal
+  rows = rows_frame W H flipped mirrored diagonal
 
   rows_lies : (i x : ℕ) → i < H → x < W → Lies W H (place_in rows i x) (counted_from flipped H i) (counted_from mirrored W x)
   rows_lies i x h k =
@@ -119,14 +119,14 @@ module _ (W H : ℕ) (flipped mirrored diagonal : Bool) where
       let d = near_down index number back in
       let a = near_across index number back in
       rw (l.is_row, l.is_column, turned_step flipped H i (rows_on index number back) h d, turned_step mirrored W x (columns_on index number back) k a)
-      (rows-spot W H flipped mirrored diagonal f (i + counted_from flipped 3 (rows_on index number back)) (x + counted_from mirrored 3 (columns_on index number back))
+      (rows_spot W H flipped mirrored diagonal f (i + counted_from flipped 3 (rows_on index number back)) (x + counted_from mirrored 3 (columns_on index number back))
       (omega (arith, near_turned flipped (rows_on index number back) d)) (omega (arith, near_turned mirrored (columns_on index number back) a)))
 
-  pub rows-near :
+  pub rows_near :
       (index : ℕ) → index < 4 → (f : ℕ → ℕ) (back : Bool) (i x : ℕ) → i < H → x < W →
       best f (around back W H (2 ^ index) (place_in rows i x))
       ≡ three (λ n. spot f rows (i + counted_from flipped 3 (rows_on index n back)) (x + counted_from mirrored 3 (columns_on index n back)))
-  rows-near index known f back i x h k =
+  rows_near index known f back i x h k =
       best_around f W H index back (place_in rows i x) known (rows_lies i x h k).on
       ∙ rw (rows_step index 0 f back i x h k, rows_step index 1 f back i x h k, rows_step index 2 f back i x h k)
 
@@ -138,7 +138,7 @@ module _ (W H : ℕ) (flipped mirrored diagonal : Bool) where
 
 module _ (W H : ℕ) (flipped mirrored diagonal : Bool) where
   abbrev pub columns : Frame
-  columns = columnsFrame W H flipped mirrored diagonal
+  columns = columns_frame W H flipped mirrored diagonal
 
   columns_lies : (i x : ℕ) → i < W → x < H → Lies W H (place_in columns i x) (counted_from mirrored H x) (counted_from flipped W i)
   columns_lies i x h k =
@@ -172,25 +172,25 @@ module _ (W H : ℕ) (flipped mirrored diagonal : Bool) where
             ∙ rw (turned_twice flipped W (p % W) c<, turned_twice mirrored H (p / W) r<) (div-add-mod' p W),
       )
 
-  columns-step :
+  columns_step :
       (index number : ℕ) (f : ℕ → ℕ) (back : Bool) (i x : ℕ) → i < W → x < H →
       plate_spot f W H (place_in columns i x / W + rows_on index number back) (place_in columns i x % W + columns_on index number back)
       ≡ spot f columns (i + counted_from flipped 3 (columns_on index number back)) (x + counted_from mirrored 3 (rows_on index number back))
-  columns-step index number f back i x h k =
+  columns_step index number f back i x h k =
       let l = columns_lies i x h k in
       let d = near_down index number back in
       let a = near_across index number back in
       rw (l.is_row, l.is_column, turned_step mirrored H x (rows_on index number back) k d, turned_step flipped W i (columns_on index number back) h a)
-      (columns-spot W H flipped mirrored diagonal f (i + counted_from flipped 3 (columns_on index number back)) (x + counted_from mirrored 3 (rows_on index number back))
+      (columns_spot W H flipped mirrored diagonal f (i + counted_from flipped 3 (columns_on index number back)) (x + counted_from mirrored 3 (rows_on index number back))
       (omega (arith, near_turned flipped (columns_on index number back) a)) (omega (arith, near_turned mirrored (rows_on index number back) d)))
 
-  pub columns-near :
+  pub columns_near :
       (index : ℕ) → index < 4 → (f : ℕ → ℕ) (back : Bool) (i x : ℕ) → i < W → x < H →
       best f (around back W H (2 ^ index) (place_in columns i x))
       ≡ three (λ n. spot f columns (i + counted_from flipped 3 (columns_on index n back)) (x + counted_from mirrored 3 (rows_on index n back)))
-  columns-near index known f back i x h k =
+  columns_near index known f back i x h k =
       best_around f W H index back (place_in columns i x) known (columns_lies i x h k).on
-      ∙ rw (columns-step index 0 f back i x h k, columns-step index 1 f back i x h k, columns-step index 2 f back i x h k)
+      ∙ rw (columns_step index 0 f back i x h k, columns_step index 1 f back i x h k, columns_step index 2 f back i x h k)
 
   pub columns_rank : (bit i x : ℕ) → i < W → x < H → rank W H bit (place_in columns i x) ≡ rank_at H bit (counted_from flipped W i) (counted_from mirrored H x)
   columns_rank bit i x h k =

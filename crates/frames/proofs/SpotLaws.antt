@@ -85,53 +85,53 @@ plate_off f W H Y X (inr (inr a)) = spot_right f W H Y X a
 -- ---- lines that are rows, and lines that are columns
 
 module _ (W H : ℕ) (flipped mirrored diagonal : Bool) where
-  abbrev pub rowsFrame : Frame
-  rowsFrame = record { lines = H; across = W; leap = W; hop = 1; flipped = flipped; mirrored = mirrored; diagonal = diagonal }
+  abbrev pub rows_frame : Frame
+  rows_frame = record { lines = H; across = W; leap = W; hop = 1; flipped = flipped; mirrored = mirrored; diagonal = diagonal }
 
-  abbrev pub columnsFrame : Frame
-  columnsFrame = record { lines = W; across = H; leap = 1; hop = W; flipped = flipped; mirrored = mirrored; diagonal = diagonal }
+  abbrev pub columns_frame : Frame
+  columns_frame = record { lines = W; across = H; leap = 1; hop = W; flipped = flipped; mirrored = mirrored; diagonal = diagonal }
 
-  pub rows_place : (i x : ℕ) → place_in rowsFrame i x ≡ counted_from flipped H i * W + counted_from mirrored W x
+  pub rows_place : (i x : ℕ) → place_in rows_frame i x ≡ counted_from flipped H i * W + counted_from mirrored W x
   unfolding place_in
   rows_place i x = omega arith
 
-  pub columns_place : (i x : ℕ) → place_in columnsFrame i x ≡ counted_from mirrored H x * W + counted_from flipped W i
+  pub columns_place : (i x : ℕ) → place_in columns_frame i x ≡ counted_from mirrored H x * W + counted_from flipped W i
   unfolding place_in
   columns_place i x = omega arith
 
   module _ (f : ℕ → ℕ) (I J : ℕ) where
-    pub rows-spot :
-        I ≤ H + 1 → J ≤ W + 1 → plate_spot f W H (counted_from flipped (H + 2) I) (counted_from mirrored (W + 2) J) ≡ spot f rowsFrame I J
-    rows-spot p q =
+    pub rows_spot :
+        I ≤ H + 1 → J ≤ W + 1 → plate_spot f W H (counted_from flipped (H + 2) I) (counted_from mirrored (W + 2) J) ≡ spot f rows_frame I J
+    rows_spot p q =
         let Y = counted_from flipped (H + 2) I in
         let X = counted_from mirrored (W + 2) J in
-        let off : Off H I ⊎ Off W J → plate_spot f W H Y X ≡ spot f rowsFrame I J =
+        let off : Off H I ⊎ Off W J → plate_spot f W H Y X ≡ spot f rows_frame I J =
         λ o.
         plate_off f W H Y X (⊎_elim (λ a. inl (turned_off flipped H I p a)) (λ a. inr (turned_off mirrored W J q a)) o)
-        ∙ sym (frame_off f rowsFrame I J o) in
-        let on : On H I → On W J → plate_spot f W H Y X ≡ spot f rowsFrame I J =
+        ∙ sym (frame_off f rows_frame I J o) in
+        let on : On H I → On W J → plate_spot f W H Y X ≡ spot f rows_frame I J =
         λ a b.
         let a' = turned_on flipped H I a in
         let b' = turned_on mirrored W J b in
-        let e : (Y - 1) * W + (X - 1) ≡ place_in rowsFrame (I - 1) (J - 1) =
+        let e : (Y - 1) * W + (X - 1) ≡ place_in rows_frame (I - 1) (J - 1) =
         omega (arith, ap (λ (k : ℕ). k * W) (turned_less flipped H I a), turned_less mirrored W J b, rows_place (I - 1) (J - 1)) in
-        spot_on f W H Y X a'.0 a'.1 b'.0 b'.1 ∙ ap f e ∙ sym (frame_on f rowsFrame I J a b) in
+        spot_on f W H Y X a'.0 a'.1 b'.0 b'.1 ∙ ap f e ∙ sym (frame_on f rows_frame I J a b) in
         ⊎_elim (λ a. ⊎_elim (λ b. on a b) (λ b. off (inr b)) (on_or_off W J)) (λ a. off (inl a)) (on_or_off H I)
 
-    pub columns-spot :
-        I ≤ W + 1 → J ≤ H + 1 → plate_spot f W H (counted_from mirrored (H + 2) J) (counted_from flipped (W + 2) I) ≡ spot f columnsFrame I J
-    columns-spot p q =
+    pub columns_spot :
+        I ≤ W + 1 → J ≤ H + 1 → plate_spot f W H (counted_from mirrored (H + 2) J) (counted_from flipped (W + 2) I) ≡ spot f columns_frame I J
+    columns_spot p q =
         let Y = counted_from mirrored (H + 2) J in
         let X = counted_from flipped (W + 2) I in
-        let off : Off W I ⊎ Off H J → plate_spot f W H Y X ≡ spot f columnsFrame I J =
+        let off : Off W I ⊎ Off H J → plate_spot f W H Y X ≡ spot f columns_frame I J =
         λ o.
         plate_off f W H Y X (⊎_elim (λ a. inr (turned_off flipped W I p a)) (λ a. inl (turned_off mirrored H J q a)) o)
-        ∙ sym (frame_off f columnsFrame I J o) in
-        let on : On W I → On H J → plate_spot f W H Y X ≡ spot f columnsFrame I J =
+        ∙ sym (frame_off f columns_frame I J o) in
+        let on : On W I → On H J → plate_spot f W H Y X ≡ spot f columns_frame I J =
         λ a b.
         let a' = turned_on flipped W I a in
         let b' = turned_on mirrored H J b in
-        let e : (Y - 1) * W + (X - 1) ≡ place_in columnsFrame (I - 1) (J - 1) =
+        let e : (Y - 1) * W + (X - 1) ≡ place_in columns_frame (I - 1) (J - 1) =
         omega (arith, ap (λ (k : ℕ). k * W) (turned_less mirrored H J b), turned_less flipped W I a, columns_place (I - 1) (J - 1)) in
-        spot_on f W H Y X b'.0 b'.1 a'.0 a'.1 ∙ ap f e ∙ sym (frame_on f columnsFrame I J a b) in
+        spot_on f W H Y X b'.0 b'.1 a'.0 a'.1 ∙ ap f e ∙ sym (frame_on f columns_frame I J a b) in
         ⊎_elim (λ a. ⊎_elim (λ b. on a b) (λ b. off (inr b)) (on_or_off H J)) (λ a. off (inl a)) (on_or_off W I)

@@ -32,9 +32,9 @@ module _ (h : Heading) (old : List ℕ) (start steps : ℕ) where
     pub few : n ≤ steps
     pub roomy : steps - n ≤ room_at h place
 
-  pub trail-starts :
+  pub trail_starts :
       get_or old start 0 < h.width * h.height → steps ≤ room_at h (get_or old start 0) → OnTrail old (get_or old start 0) 0
-  trail-starts on enough =
+  trail_starts on enough =
       record {
         trail = trail_none h.width h.height (bit_of h) h.backwards old start;
         here = ap (λ (i : ℕ). get_or old i 0) (sym (index_first h.backwards start));
@@ -53,9 +53,9 @@ module _ (h : Heading) (old : List ℕ) (start steps : ℕ) where
         let q = S.onward place d.on (omega (arith, d.roomy)) in
         chosen.fits (chosen.found q.0 (record { near = q.1; roomy = omega (arith, q.2, d.roomy) }))
 
-    pub trail-goes-on :
+    pub trail_goes_on :
         (i : ℕ) → i ≡ index_after h.backwards start (n + 1) → Within h.backwards (length old) start steps → OnTrail (set path i r) r (n + 1)
-    trail-goes-on i is-i within =
+    trail_goes_on i is-i within =
         let w = within_less h.backwards (length old) start steps (n + 1) within (omega arith) in
         rw is-i
         (record {

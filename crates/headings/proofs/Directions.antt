@@ -53,9 +53,9 @@ module _ (W H : ℕ) (s : Setting) (index : ℕ) where
     unfolding usable member
     not_chosen n = rw (lt-ltb index 4 l, same_bit, ne_eqb (s.directions / b % 2) 1 n) refl
 
-    pub chosen-long : s.directions / b % 2 ≡ 1 → (longest : ℕ) → longest ≡ span_of W H index → leb s.length longest ≡ usable W H s index
+    pub chosen_long : s.directions / b % 2 ≡ 1 → (longest : ℕ) → longest ≡ span_of W H index → leb s.length longest ≡ usable W H s index
     unfolding usable member
-    chosen-long e longest is = rw (is, lt-ltb index 4 l, same_bit, eq-eqb (s.directions / b % 2) 1 e) refl
+    chosen_long e longest is = rw (is, lt-ltb index 4 l, same_bit, eq-eqb (s.directions / b % 2) 1 e) refl
 
 -- ---- what it says
 

@@ -112,23 +112,23 @@ module _ (W H index : ℕ) (b : Bool) (start steps : ℕ) (path : List ℕ) wher
   goes_1 a = rw a refl
 
   module _ (in_path : inside b (length path) start steps ≡ true) where
-    pub goes-2 : stands_on W H index (get_or path start 0) ≡ false → false ≡ goes_on W H index b start steps path
+    pub goes_2 : stands_on W H index (get_or path start 0) ≡ false → false ≡ goes_on W H index b start steps path
     unfolding goes_on
-    goes-2 a = rw (in_path, a) refl
+    goes_2 a = rw (in_path, a) refl
 
     module _ (stands : stands_on W H index (get_or path start 0) ≡ true) (room : ℕ) (is : room ≡ steps_left W H (2 ^ index) b (get_or path start 0)) where
-      pub goes-3 : room < steps → false ≡ goes_on W H index b start steps path
+      pub goes_3 : room < steps → false ≡ goes_on W H index b start steps path
       unfolding goes_on
-      goes-3 a = rw (in_path, stands, sym is, lt-leb steps room a) refl
+      goes_3 a = rw (in_path, stands, sym is, lt-leb steps room a) refl
 
-      pub goes-4 : steps ≤ room → true ≡ goes_on W H index b start steps path
+      pub goes_4 : steps ≤ room → true ≡ goes_on W H index b start steps path
       unfolding goes_on
-      goes-4 a = rw (in_path, stands, sym is, le-leb steps room a) refl
+      goes_4 a = rw (in_path, stands, sym is, le-leb steps room a) refl
 
-  pub goes-if :
+  pub goes_if :
       length path ≤ 65536 → start < length path → Within b (length path) start steps → Standing W H index (get_or path start 0) →
       steps ≤ steps_left W H (2 ^ index) b (get_or path start 0) → goes_on W H index b start steps path ≡ true
-  goes-if few has within stands room =
+  goes_if few has within stands room =
       sym
-      (goes-4 (inside_if b (length path) start steps few has within) (stand_if W H index (get_or path start 0) stands)
+      (goes_4 (inside_if b (length path) start steps few has within) (stand_if W H index (get_or path start 0) stands)
       (steps_left W H (2 ^ index) b (get_or path start 0)) refl room)

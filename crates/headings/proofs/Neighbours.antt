@@ -118,16 +118,16 @@ module _ (h : Heading) (p m : ℕ) where
       }
 
   module _ (k : Known h) (number x : ℕ) (is : x ≡ place_or (h.width * h.height) (reached_at h number p)) where
-    pub left-misses : h.width * h.height ≤ x → (q : ℕ) → reached_at h number p ≡ at q → Fitting h p m q → ⊥
-    left-misses off q e f = omega (arith, reached_on h k p number q e, at_placed (h.width * h.height) (reached_at h number p) q x is e)
+    pub left_misses : h.width * h.height ≤ x → (q : ℕ) → reached_at h number p ≡ at q → Fitting h p m q → ⊥
+    left_misses off q e f = omega (arith, reached_on h k p number q e, at_placed (h.width * h.height) (reached_at h number p) q x is e)
 
-    pub narrow-misses : (n : ℕ) → n ≡ room_at h x → n < m → (q : ℕ) → reached_at h number p ≡ at q → Fitting h p m q → ⊥
-    narrow-misses n e less q reached f =
+    pub narrow_misses : (n : ℕ) → n ≡ room_at h x → n < m → (q : ℕ) → reached_at h number p ≡ at q → Fitting h p m q → ⊥
+    narrow_misses n e less q reached f =
         let same : x ≡ q = at_placed (h.width * h.height) (reached_at h number p) q x is reached in
         omega (arith, f.roomy, ap (room_at h) same)
 
-    pub roomy-chosen : (n : ℕ) → n ≡ room_at h x → number < 3 → x < h.width * h.height → m ≤ n → Chosen h p m x
-    roomy-chosen n e l on enough =
+    pub roomy_chosen : (n : ℕ) → n ≡ room_at h x → number < 3 → x < h.width * h.height → m ≤ n → Chosen h p m x
+    roomy_chosen n e l on enough =
         record {
           fits = λ z.
               record {

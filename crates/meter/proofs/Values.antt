@@ -207,13 +207,13 @@ value_of (fin u m e) t n k h =
     let x : ℕ = m * up e * c in
     let both = and_both (eqb x (n * 1 * down e)) (beq u t || eqb x 0) h in
     let same : x ≡ n * down e = eqb→eq x (n * 1 * down e) both.0 ∙ ap (λ (a : ℕ). a * down e) (mul-one n) in
-    subst (λ (z : ℤ). Equals (fin u m e) z c) (one-sign u t both.1 (λ e'. factor_zero n (down e) (down_pos e) (sym same ∙ e'))) (equals (fin u m e) u n c (refl, same))
+    subst (λ (z : ℤ). Equals (fin u m e) z c) (one_sign u t both.1 (λ e'. factor_zero n (down e) (down_pos e) (sym same ∙ e'))) (equals (fin u m e) u n c (refl, same))
   where
-    one-sign : (u t : Bool) {x : ℕ} → T (beq u t || eqb x 0) → (x ≡ 0 → n ≡ 0) → with_sign u n ≡ with_sign t n
-    one-sign true true h z = refl
-    one-sign false false h z = refl
-    one-sign true false {x} h z = rw (z (eqb→eq x 0 h))
-    one-sign false true {x} h z = rw (z (eqb→eq x 0 h))
+    one_sign : (u t : Bool) {x : ℕ} → T (beq u t || eqb x 0) → (x ≡ 0 → n ≡ 0) → with_sign u n ≡ with_sign t n
+    one_sign true true h z = refl
+    one_sign false false h z = refl
+    one_sign true false {x} h z = rw (z (eqb→eq x 0 h))
+    one_sign false true {x} h z = rw (z (eqb→eq x 0 h))
 
 pub equal_of : (x : Float) (z : ℤ) (k : ℕ) → Equals x z (2 ^ suc k) → T (eq x (fin (is_negative z) (nat_abs z) (negsuc k)))
 unfolding eq

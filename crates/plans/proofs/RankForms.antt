@@ -43,13 +43,13 @@ module _ (top bottom left right : ℕ) where
 
   -- the pixels of rank k, and of rank l, which is n ranks on
   record Beyond (n k l : ℕ) : Type 0 where
-    lo-up : lo k ≤ lo l
-    lo-near : lo l ≤ lo k + n
-    hi-up : hi k ≤ hi l
-    hi-near : hi l ≤ hi k + n
+    lo_up : lo k ≤ lo l
+    lo_near : lo l ≤ lo k + n
+    hi_up : hi k ≤ hi l
+    hi_near : hi l ≤ hi k + n
 
   beyond : (n k l : ℕ) → l ≡ k + n → Beyond n k l
-  beyond n k l e = record { lo-up = omega arith; lo-near = omega arith; hi-up = omega arith; hi-near = omega arith }
+  beyond n k l e = record { lo_up = omega arith; lo_near = omega arith; hi_up = omega arith; hi_near = omega arith }
 
   -- from the first rank to the last
   record Within (k : ℕ) : Type 0 where
@@ -170,10 +170,10 @@ module _ (p : Plan) (f : Formed p) (is-rank : p.ranked ≡ true) where
           (lo p.top p.bottom p.left p.right (rank q) ≤ c + x) × (c + x ≤ hi p.top p.bottom p.left p.right (rank q) + 1)
       go true b =
           let n' = beyond p.top p.bottom p.left p.right n (rank s) (rank q) ((apart n q s e h).back b) in
-          (omega (arith, n'.lo-near, when-back b), omega (arith, n'.hi-up))
+          (omega (arith, n'.lo_near, when-back b), omega (arith, n'.hi_up))
       go false b =
           let n' = beyond p.top p.bottom p.left p.right n (rank q) (rank s) ((apart n q s e h).on b) in
-          (omega (arith, n'.lo-up), omega (arith, n'.hi-near, when-on b))
+          (omega (arith, n'.lo_up), omega (arith, n'.hi_near, when-on b))
 
   seen_lo_lem : (d m : ℕ) → seen_lo p d (suc m) ≡ lo p.top p.bottom p.left p.right (rank (d + m))
   unfolding seen_lo

@@ -25,33 +25,33 @@ module _ (W H index : ℕ) (good : bad_size W H ≡ false) where
   no_direction h = rw (good, le-leb 4 index h)
 
   module _ (listed : index < 4) where
-    pub span-listed : span W H (2 ^ index) ≡ span_of W H index
+    pub span_listed : span W H (2 ^ index) ≡ span_of W H index
     unfolding span_of table
-    span-listed = rw (good, lt-leb 4 index listed)
+    span_listed = rw (good, lt-leb 4 index listed)
 
     -- the middle step stays in its column, or in its row, where the bits of its change are 0
-    pub span-rows : of_z w8 (step_at index 1).column ≡ 0 → H ≡ span_of W H index
+    pub span_rows : of_z w8 (step_at index 1).column ≡ 0 → H ≡ span_of W H index
     unfolding span step_at table
-    span-rows e =
+    span_rows e =
         below_four (λ (i : ℕ). of_z w8 (step_at i 1).column ≡ 0 → H ≡ span W H (2 ^ i))
-        (λ z. refl) (λ z. absurd (omega arith)) (λ z. absurd (omega arith)) (λ z. absurd (omega arith)) index listed e ∙ span-listed
+        (λ z. refl) (λ z. absurd (omega arith)) (λ z. absurd (omega arith)) (λ z. absurd (omega arith)) index listed e ∙ span_listed
 
-    pub span-columns : of_z w8 (step_at index 1).row ≡ 0 → W ≡ span_of W H index
+    pub span_columns : of_z w8 (step_at index 1).row ≡ 0 → W ≡ span_of W H index
     unfolding span step_at table
-    span-columns e =
+    span_columns e =
         below_four (λ (i : ℕ). of_z w8 (step_at i 1).row ≡ 0 → W ≡ span W H (2 ^ i))
-        (λ z. absurd (omega arith)) (λ z. refl) (λ z. absurd (omega arith)) (λ z. absurd (omega arith)) index listed e ∙ span-listed
+        (λ z. absurd (omega arith)) (λ z. refl) (λ z. absurd (omega arith)) (λ z. absurd (omega arith)) index listed e ∙ span_listed
 
-    pub span-diagonal : (of_z w8 (step_at index 1).column ≡ 0 → ⊥) → (of_z w8 (step_at index 1).row ≡ 0 → ⊥) → W + H - 1 ≡ span_of W H index
+    pub span_diagonal : (of_z w8 (step_at index 1).column ≡ 0 → ⊥) → (of_z w8 (step_at index 1).row ≡ 0 → ⊥) → W + H - 1 ≡ span_of W H index
     unfolding span step_at table
-    span-diagonal m n =
+    span_diagonal m n =
         below_four (λ (i : ℕ). (of_z w8 (step_at i 1).column ≡ 0 → ⊥) → (of_z w8 (step_at i 1).row ≡ 0 → ⊥) → W + H - 1 ≡ span W H (2 ^ i))
-        (λ p q. absurd (p refl)) (λ p q. absurd (q refl)) (λ p q. refl) (λ p q. refl) index listed m n ∙ span-listed
+        (λ p q. absurd (p refl)) (λ p q. absurd (q refl)) (λ p q. refl) (λ p q. refl) index listed m n ∙ span_listed
 
 -- ---- for callers
 
 pub span_good : {W H : ℕ} → GoodSize W H → (index : ℕ) → index < 4 → span_of W H index ≡ span W H (2 ^ index)
-span_good {W} {H} g index h = sym (span-listed W H index (allowed_size g) h)
+span_good {W} {H} g index h = sym (span_listed W H index (allowed_size g) h)
 
 pub span_bound : {W H : ℕ} → GoodSize W H → (index : ℕ) → index < 4 → span_of W H index ≤ 2047
 unfolding span

@@ -36,9 +36,9 @@ module _ (w : Walker) (number : ℕ) where
     unfolding step_from
     off s h = rw (le-ltb _ _ h)
 
-    pub place-leaves : w.width * w.height ≤ w.place → Leaves ≡ walked w number
+    pub place_leaves : w.width * w.height ≤ w.place → Leaves ≡ walked w number
     unfolding numbered_step
-    place-leaves h =
+    place_leaves h =
         let ss = steps w.direction in
         let go = step_from w.width w.height w.place in
         decided
@@ -47,12 +47,12 @@ module _ (w : Walker) (number : ℕ) where
         (λ l. map_at go ss number (step_at 0 0) leaves l ∙ off _ h)
         (le_or_lt (length ss) number))
 
-    pub no-direction-leaves : 4 ≤ index_of w.direction → Leaves ≡ walked w number
-    no-direction-leaves h = decided (direction_leaves w.width w.height w.direction number w.place h)
+    pub no_direction_leaves : 4 ≤ index_of w.direction → Leaves ≡ walked w number
+    no_direction_leaves h = decided (direction_leaves w.width w.height w.direction number w.place h)
 
     module _ (known : index_of w.direction < 4) where
-      pub no-number-leaves : 3 ≤ number → Leaves ≡ walked w number
-      no-number-leaves h = decided (number_leaves w.width w.height w.direction number w.place known h)
+      pub no_number_leaves : 3 ≤ number → Leaves ≡ walked w number
+      no_number_leaves h = decided (number_leaves w.width w.height w.direction number w.place known h)
 
       module _ (numbered : number < 3) (on : w.place < w.width * w.height) (column row : ℕ)
           (column_is : column ≡ within w.width (pos (w.place % w.width) +ℤ (step_at (index_of w.direction) number).column))
@@ -63,13 +63,13 @@ module _ (w : Walker) (number : ℕ) where
             let here : step_from w.width w.height w.place (step_at (index_of w.direction) number) ≡ q = rw (lt-ltb _ _ on) e in
             decided (step_taken w.width w.height w.direction number w.place known numbered ∙ here)
 
-        pub past-column-leaves : w.width ≤ column → Leaves ≡ walked w number
-        past-column-leaves h = taken leaves (column_leaves w.width w.height _ _ (rw column_is at h))
+        pub past_column_leaves : w.width ≤ column → Leaves ≡ walked w number
+        past_column_leaves h = taken leaves (column_leaves w.width w.height _ _ (rw column_is at h))
 
-        pub past-row-leaves : column < w.width → w.height ≤ row → Leaves ≡ walked w number
-        past-row-leaves k h = taken leaves (row_leaves w.width w.height _ _ (rw column_is at k) (rw row_is at h))
+        pub past_row_leaves : column < w.width → w.height ≤ row → Leaves ≡ walked w number
+        past_row_leaves k h = taken leaves (row_leaves w.width w.height _ _ (rw column_is at k) (rw row_is at h))
 
-        pub walker-moves : column < w.width → row < w.height → To (record { width = w.width; height = w.height; direction = w.direction; place = row * w.width + column }) ≡ walked w number
-        walker-moves k h =
+        pub walker_moves : column < w.width → row < w.height → To (record { width = w.width; height = w.height; direction = w.direction; place = row * w.width + column }) ≡ walked w number
+        walker_moves k h =
             rw (column_is, row_is)
             (taken (at _) (place_reached w.width w.height _ _ (rw column_is at k) (rw row_is at h)))

@@ -246,13 +246,13 @@ module _ (p : Plan) (sound : Sound p) where
   -- the last state of the stack is the one before that of the last mark
   pub top_holds : (work marks : List ℕ) (base depth m from : ℕ) (f : ℕ → ℕ → ℕ → ℕ → ℕ) → Stacked work marks base p f depth → m ≡ last_mark marks depth →
       from ≡ base + (depth - 1) * z → LastHolds work from p m (f (m - 1))
-  top_holds work marks base depth m from f h is_m is-from =
+  top_holds work marks base depth m from f h is_m is_from =
       record {
         is = λ d k q.
             let some = some_state marks depth (omega arith) in
             let mark : get_or marks (depth - 1) 0 - 1 ≡ d = omega (arith, last_of marks depth some) in
             let here = h.holds (depth - 1) (omega arith) in
-            subst (λ (n : ℕ). Holds work n p d (f (m - 1))) (sym is-from)
+            subst (λ (n : ℕ). Holds work n p d (f (m - 1))) (sym is_from)
             (subst (λ (n : ℕ). Holds work (base + (depth - 1) * z) p d (f n)) (let w : d ≡ m - 1 = omega arith in w)
             (subst (λ (n : ℕ). Holds work (base + (depth - 1) * z) p n (f n)) mark here));
       }
@@ -276,11 +276,11 @@ module _ (p : Plan) (sound : Sound p) where
 
   pub pushed : (old new marks : List ℕ) (base d m first from : ℕ) → d < length marks → first ≡ last_mark marks d → first < m →
       m ≤ 1024 → from ≡ base + (d - 1) * z → RunOn p first m old new from (base + d * z) → Pushed p base d m old marks new (set marks d m)
-  pushed old new marks base d m first from l is-first o few is-from r =
+  pushed old new marks base d m first from l is-first o few is_from r =
       record {
         is = λ keys f k s stack.
             stacked_more old new marks base d m f l (omega arith) (omega arith) stack r.apart
-            (r.is keys f k s (top_holds old marks base d first from f stack is-first is-from));
+            (r.is keys f k s (top_holds old marks base d first from f stack is-first is_from));
         apart = apart_wider old new _ _ _ _ r.apart (omega arith) (omega (arith, add-mul d 1 z));
         len = length-set marks d m;
       }

@@ -44,39 +44,39 @@ module _ (planes pitch t0 t1 t2 to size : ℕ) (taps : TapsOf (planes * pitch) t
   -- ---- what is read is as it was
 
   module _ (old new : List ℕ) (apart : Apart old new (to - 1) (to - 1 + planes * pitch)) where
-    tap-same :
+    tap_same :
         (t j y : ℕ) → (t + planes * pitch ≤ to + 1) ⊎ (to + planes * pitch ≤ t + 1) → j < planes → y + 3 ≤ pitch →
         get_or new (t + j * pitch + y) 0 ≡ get_or old (t + j * pitch + y) 0
-    tap-same t j y o l n =
+    tap_same t j y o l n =
         elim o [
           | inl u ↦ apart.under (t + j * pitch + y) (omega (arith, in_block j l))
           | inr u ↦ apart.over (t + j * pitch + y) (omega (arith, taps.some))
         ]
 
-    layer-same : (j y : ℕ) → j ≤ planes → y + 3 ≤ pitch → layer_ahead new pitch t0 t1 t2 j y ≡ layer_ahead old pitch t0 t1 t2 j y
+    layer_same : (j y : ℕ) → j ≤ planes → y + 3 ≤ pitch → layer_ahead new pitch t0 t1 t2 j y ≡ layer_ahead old pitch t0 t1 t2 j y
     unfolding layer_ahead
-    layer-same zero y l n = refl
-    layer-same (suc j) y l n =
+    layer_same zero y l n = refl
+    layer_same (suc j) y l n =
         rw (
-          tap-same t0 j y taps.clear0 (omega arith) n,
-          tap-same t1 j y taps.clear1 (omega arith) n,
-          tap-same t2 j y taps.clear2 (omega arith) n,
+          tap_same t0 j y taps.clear0 (omega arith) n,
+          tap_same t1 j y taps.clear1 (omega arith) n,
+          tap_same t2 j y taps.clear2 (omega arith) n,
         )
 
-    blended-same :
+    blended_same :
         (key : ℕ → ℕ) (j y : ℕ) → j < planes → y + 3 ≤ pitch → blended new pitch t0 t1 t2 key j y ≡ blended old pitch t0 t1 t2 key j y
-    blended-same key j y l n = rw (layer-same (suc j) y (omega arith) n, layer-same j y (omega arith) n)
+    blended_same key j y l n = rw (layer_same (suc j) y (omega arith) n, layer_same j y (omega arith) n)
 
     -- the greatest of the three, o further on, is the layer of a plane
-    pub layer-read :
+    pub layer_read :
         (j x o i : ℕ) → o ≡ x + j * pitch → j < planes → x + i + 3 ≤ pitch →
         greatest_at new t0 t1 t2 (o + i) ≡ layer_ahead old pitch t0 t1 t2 (suc j) (x + i)
     unfolding layer_ahead
-    layer-read j x o i e l n =
+    layer_read j x o i e l n =
         rw (
-          at t0 ∙ tap-same t0 j (x + i) taps.clear0 l n,
-          at t1 ∙ tap-same t1 j (x + i) taps.clear1 l n,
-          at t2 ∙ tap-same t2 j (x + i) taps.clear2 l n,
+          at t0 ∙ tap_same t0 j (x + i) taps.clear0 l n,
+          at t1 ∙ tap_same t1 j (x + i) taps.clear1 l n,
+          at t2 ∙ tap_same t2 j (x + i) taps.clear2 l n,
         )
       where
         at : (t : ℕ) → get_or new (t + (o + i)) 0 ≡ get_or new (t + j * pitch + (x + i)) 0
@@ -85,13 +85,13 @@ module _ (planes pitch t0 t1 t2 to size : ℕ) (taps : TapsOf (planes * pitch) t
   -- ---- a plane more of eight pixels
 
   module _ (x : ℕ) (room : x + 10 ≤ pitch) (key : ℕ → ℕ) (old mid new : List ℕ) where
-    pub plane-put :
+    pub plane_put :
         (v : ℕ → ℕ) (past at : ℕ) → past < planes →
         Blent old mid key past pitch t0 t1 t2 to x (x + 8) →
         Between (λ k. v (k - at)) mid new at (at + 8) → at ≡ to + (x + past * pitch) →
         ((i : ℕ) → i < 8 → v i ≡ blended old pitch t0 t1 t2 key past (x + i)) →
         Blent old new key (past + 1) pitch t0 t1 t2 to x (x + 8)
-    plane-put v past at l s b e rule =
+    plane_put v past at l s b e rule =
         planes_more (In (x + 1) (x + 8 + 1)) _ old mid new (to - 1) pitch past (λ X p. omega (arith, p)) s
         (plane_run _ (λ X. blended old pitch t0 t1 t2 key past (X - 1)) mid new (to - 1) (past * pitch) pitch (x + 1) (x + 8 + 1) at (at + 8) b
         (omega (arith, taps.some)) (omega (arith, taps.some)) (omega arith) here)
@@ -105,16 +105,16 @@ module _ (planes pitch t0 t1 t2 to size : ℕ) (taps : TapsOf (planes * pitch) t
 
     -- ---- eight pixels more of all planes
 
-    pub columns-more :
+    pub columns_more :
         (lo : ℕ) → lo ≤ x →
         Blent old mid key planes pitch t0 t1 t2 to lo x →
         Blent mid new key planes pitch t0 t1 t2 to x (x + 8) →
         Blent old new key planes pitch t0 t1 t2 to lo (x + 8)
-    columns-more lo o s t =
+    columns_more lo o s t =
         record {
           inside = λ j X l p.
               elim (le_or_lt (x + 1) X) [
-                | inl k ↦ t.inside j X l (k, omega (arith, p)) ∙ blended-same old mid s.apart key j (X - 1) l (omega (arith, p))
+                | inl k ↦ t.inside j X l (k, omega (arith, p)) ∙ blended_same old mid s.apart key j (X - 1) l (omega (arith, p))
                 | inr k ↦ t.outside j X (omega (arith, p)) (λ q. omega (arith, q)) ∙ s.inside j X l (p.0, k)
               ];
           outside = λ j X l n.

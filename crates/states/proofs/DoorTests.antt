@@ -250,17 +250,17 @@ module _ (p : Plan) (s : Stretch) (from ends best work held : ℕ) where
   joins_2 a rows r n = rw (a, sym r, ne_eqb rows p.rows n) refl
 
   module _ (a : can_make p s held ≡ true) (rows : ℕ) (r : rows ≡ rows_in p (s.past - 1)) (full : rows ≡ p.rows) where
-    pub joins-3 : state_fits p from work ≡ false → false ≡ joins p s from ends best work held
+    pub joins_3 : state_fits p from work ≡ false → false ≡ joins p s from ends best work held
     unfolding joins
-    joins-3 f = rw (a, sym r, eq-eqb rows p.rows full, f) refl
+    joins_3 f = rw (a, sym r, eq-eqb rows p.rows full, f) refl
 
-    pub joins-4 : state_fits p from work ≡ true → state_fits p ends work ≡ false → false ≡ joins p s from ends best work held
+    pub joins_4 : state_fits p from work ≡ true → state_fits p ends work ≡ false → false ≡ joins p s from ends best work held
     unfolding joins
-    joins-4 f g = rw (a, sym r, eq-eqb rows p.rows full, f, g) refl
+    joins_4 f g = rw (a, sym r, eq-eqb rows p.rows full, f, g) refl
 
-    pub joins-5 : state_fits p from work ≡ true → state_fits p ends work ≡ true → leb (keys_size p) best ≡ joins p s from ends best work held
+    pub joins_5 : state_fits p from work ≡ true → state_fits p ends work ≡ true → leb (keys_size p) best ≡ joins p s from ends best work held
     unfolding joins
-    joins-5 f g = rw (a, sym r, eq-eqb rows p.rows full, f, g) refl
+    joins_5 f g = rw (a, sym r, eq-eqb rows p.rows full, f, g) refl
 
   pub record Joins : Type 0 where
     pub made : Makes p s held
@@ -291,6 +291,6 @@ module _ (p : Plan) (s : Stretch) (from ends best work held : ℕ) where
   pub joins_if : Joins → joins p s from ends best work held ≡ true
   joins_if h =
       sym
-      (joins-5 (make_if p s held h.made) (rows_in p (s.past - 1)) refl h.full (state_if p from work h.source.0 h.source.1)
+      (joins_5 (make_if p s held h.made) (rows_in p (s.past - 1)) refl h.full (state_if p from work h.source.0 h.source.1)
       (state_if p ends work h.other.0 h.other.1))
       ∙ le-leb (keys_size p) best h.result

@@ -196,37 +196,37 @@ module _ (p : Plan) (e m : ℕ) (s : Slots) (size : ℕ) (slotted : Slotted p s 
   module _ (held : List ℕ) (last this : ℕ → ℕ → ℕ → ℕ) (beside : p.linked ≡ true → LastHeld p e (suc m) held (s.now + block_of p) last)
       (ready : Ready p e m held s.was last this) (c : ℕ) (lower : row_lo p e m ≤ c) (upper : c < row_hi p e m) (wide : row_hi p e m ≤ p.across) where
     -- a step reads what it leads on
-    tap-reads : (y x j : ℕ) → Readable p e m y x → j < p.planes →
+    tap_reads : (y x j : ℕ) → Readable p e m y x → j < p.planes →
         get_or held (tap_of p s y + x + j * pitch_of p + c) 0 ≡ seen p e last this y m j (c + x)
     unfolding tap_of seen last_before
-    tap-reads zero x j r hj =
+    tap_reads zero x j r hj =
         let reads = r.own refl c lower upper in
         ap (λ (q : ℕ). get_or held q 0) (omega arith) ∙ ready.own j (c + x) hj reads.0 reads.1
-    tap-reads (suc zero) x j r hj =
+    tap_reads (suc zero) x j r hj =
         let linked = linked_reach p e m 0 x r in
         ap (λ (q : ℕ). get_or held q 0) (omega arith)
         ∙ last_reads p e m held (s.was + block_of p) last j (c + x) (ready.other linked) hj (omega (arith, r.near))
         (λ d ed. r.before refl d ed c lower upper)
-    tap-reads (suc (suc zero)) x j r hj =
+    tap_reads (suc (suc zero)) x j r hj =
         let linked = linked_reach p e m 1 x r in
         ap (λ (q : ℕ). get_or held q 0) (omega arith)
         ∙ last_reads p e (suc m) held (s.now + block_of p) last j (c + x) (beside linked) hj (omega (arith, r.near))
         (λ d ed. r.beside refl d ed c lower upper)
-    tap-reads (suc (suc (suc y))) x j r hj = absurd (omega (arith, r.few))
+    tap_reads (suc (suc (suc y))) x j r hj = absurd (omega (arith, r.few))
 
     -- so the greatest of three held numbers is the one that the three steps lead on
-    pub layer-reads : (t0 t1 t2 : ℕ) → TapsAt p s t0 t1 t2 → Sound p → e < 65536 → m < rows_in p e → (j : ℕ) → j ≤ p.planes →
+    pub layer_reads : (t0 t1 t2 : ℕ) → TapsAt p s t0 t1 t2 → Sound p → e < 65536 → m < rows_in p e → (j : ℕ) → j ≤ p.planes →
         layer_ahead held (pitch_of p) t0 t1 t2 j c ≡ ahead p e last this j m c
     unfolding layer_ahead ahead
-    layer-reads t0 t1 t2 taps sound he hm zero hj = refl
-    layer-reads t0 t1 t2 taps sound he hm (suc j) hj =
+    layer_reads t0 t1 t2 taps sound he hm zero hj = refl
+    layer_reads t0 t1 t2 taps sound he hm (suc j) hj =
         rw (
           taps.first,
           taps.second,
           taps.third,
-          tap-reads p.reach.y0 p.reach.x0 j (sound.first e m hm he) (omega arith),
-          tap-reads p.reach.y1 p.reach.x1 j (sound.second e m hm he) (omega arith),
-          tap-reads p.reach.y2 p.reach.x2 j (sound.third e m hm he) (omega arith),
+          tap_reads p.reach.y0 p.reach.x0 j (sound.first e m hm he) (omega arith),
+          tap_reads p.reach.y1 p.reach.x1 j (sound.second e m hm he) (omega arith),
+          tap_reads p.reach.y2 p.reach.x2 j (sound.third e m hm he) (omega arith),
         )
 
 -- the steps may be taken
@@ -261,5 +261,5 @@ made_blended p e m work s old new sound slotted he hm st lo hi at t0 t1 t2 slot 
     (held_by new slot p.planes (pitch_of p) lo hi (row_lo p e m) (row_hi p e m) _ (this m) h el eh
     (λ j x hj l k.
     let wide = (sound.fits e m hm he).wide in
-    let reads = layer-reads p e m s (length old) slotted old last this beside ready x l k wide t0 t1 t2 taps sound he hm in
+    let reads = layer_reads p e m s (length old) slotted old last this beside ready x l k wide t0 t1 t2 taps sound he hm in
     rw (reads (suc j) (omega arith), reads j (omega arith), ea) (sym (grown.later m j x hm hj l k st)))))

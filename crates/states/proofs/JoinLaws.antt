@@ -81,31 +81,31 @@ module _ (held work : List ℕ) (slot at planes pitch across : ℕ) where
   pub record Joining (old new : List ℕ) (row lo hi h from : ℕ) : Type 0 where
     pub turns : ℕ
     pub few : turns ≤ planes
-    pub is-h : h ≡ slot + 1 + lo + turns * pitch
-    pub is-from : from + turns * across ≡ at + planes * across
+    pub is_h : h ≡ slot + 1 + lo + turns * pitch
+    pub is_from : from + turns * across ≡ at + planes * across
     pub folded : Folded lower old new row turns lo hi
 
   pub joining_none : (old : List ℕ) (row lo hi h from : ℕ) → h ≡ slot + 1 + lo → from ≡ at + planes * across → Joining old old row lo hi h from
   joining_none old row lo hi h from eh ef =
-      record { turns = 0; few = omega arith; is-h = omega arith; is-from = omega arith; folded = folded_none lower old row lo hi }
+      record { turns = 0; few = omega arith; is_h = omega arith; is_from = omega arith; folded = folded_none lower old row lo hi }
 
   -- while there is a turn left
   module _ (old mid : List ℕ) (row lo hi h from : ℕ) (s : Joining old mid row lo hi h from) (more : at < from) where
-    pub turn-left : s.turns < planes
-    turn-left =
+    pub turn_left : s.turns < planes
+    turn_left =
         elim (le_or_lt planes s.turns) [
           | inr l ↦ l
-          | inl l ↦ absurd (omega (arith, more, s.is-from, rows_fit planes 0 s.turns across (omega arith)))
+          | inl l ↦ absurd (omega (arith, more, s.is_from, rows_fit planes 0 s.turns across (omega arith)))
         ]
 
-    pub turn-fits : at + across ≤ from
-    turn-fits = omega (arith, s.is-from, rows_fit s.turns 1 planes across (omega (arith, turn-left)))
+    pub turn_fits : at + across ≤ from
+    turn_fits = omega (arith, s.is_from, rows_fit s.turns 1 planes across (omega (arith, turn_left)))
 
     pub some_across : 1 ≤ across
     some_across =
         elim (le_or_lt 1 across) [
           | inl l ↦ l
-          | inr l ↦ let e : across ≤ 0 = omega arith in absurd (omega (arith, more, s.is-from, mul-le-mul_left planes e))
+          | inr l ↦ let e : across ≤ 0 = omega arith in absurd (omega (arith, more, s.is_from, mul-le-mul_left planes e))
         ]
 
     -- where the numbers of the turn stand
@@ -113,11 +113,11 @@ module _ (held work : List ℕ) (slot at planes pitch across : ℕ) where
     turn_at =
         omega (
           arith,
-          turn-fits,
-          s.is-from,
+          turn_fits,
+          s.is_from,
           add-mul s.turns 1 across,
           add-mul (planes - 1 - s.turns) (s.turns + 1) across,
-          ap (λ (k : ℕ). k * across) (let e : planes - 1 - s.turns + (s.turns + 1) ≡ planes = omega (arith, turn-left) in e),
+          ap (λ (k : ℕ). k * across) (let e : planes - 1 - s.turns + (s.turns + 1) ≡ planes = omega (arith, turn_left) in e),
         )
 
     pub joining_more :
@@ -130,24 +130,24 @@ module _ (held work : List ℕ) (slot at planes pitch across : ℕ) where
     joining_more new to w n b et en ew =
         record {
           turns = s.turns + 1;
-          few = omega (arith, turn-left);
-          is-h = omega (arith, s.is-h, add-mul s.turns 1 pitch);
-          is-from = omega (arith, turn-fits, s.is-from, add-mul s.turns 1 across);
+          few = omega (arith, turn_left);
+          is_h = omega (arith, s.is_h, add-mul s.turns 1 pitch);
+          is_from = omega (arith, turn_fits, s.is_from, add-mul s.turns 1 across);
           folded = folded_more lower _ old mid new row s.turns lo hi to (to + n) s.folded b et (omega arith)
               (λ x p q.
-              let eh : h + (row + x - to) ≡ slot + (s.turns * pitch + (x + 1)) = omega (arith, s.is-h) in
+              let eh : h + (row + x - to) ≡ slot + (s.turns * pitch + (x + 1)) = omega (arith, s.is_h) in
               let ek : w + (row + x - to) ≡ at + ((planes - 1 - s.turns) * across + x) = omega (arith, turn_at) in
               rw (eh, ek));
         }
 
   -- no turn is left
-  pub row-joined :
+  pub row_joined :
       (old new : List ℕ) (row lo hi h from : ℕ) →
       Joining old new row lo hi h from →
       from ≤ at →
       hi ≤ across →
       (f g : ℕ → ℕ → ℕ) → RowHeld held slot planes pitch lo hi f → RowStored work at planes across lo hi g → RowJoined old new row planes lo hi f g
-  row-joined old new row lo hi h from s none wide f g hold store =
+  row_joined old new row lo hi h from s none wide f g hold store =
       record {
         grown = s.folded.grown;
         reached = λ j x l a b. subst (λ (v : ℕ). v ≤ get_or new (row + x) 0) (is j x l a b) (s.folded.reached j x (passed j x l b) a b);
@@ -161,7 +161,7 @@ module _ (held work : List ℕ) (slot at planes pitch across : ℕ) where
       passed j x l b =
           elim (le_or_lt s.turns j) [
             | inr k ↦ k
-            | inl k ↦ absurd (omega (arith, s.is-from, rows_fit s.turns 1 planes across (omega arith)))
+            | inl k ↦ absurd (omega (arith, s.is_from, rows_fit s.turns 1 planes across (omega arith)))
           ]
 
       is : (j x : ℕ) → j < planes → lo ≤ x → x < hi → lower j x ≡ min (f j x) (g (planes - 1 - j) x)

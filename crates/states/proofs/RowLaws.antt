@@ -119,21 +119,21 @@ StartedBelow p key slot first past old new count =
 
 module _ (p : Plan) (keys : List ℕ) (slot at first past : ℕ) (fits : past ≤ p.across) where
   -- plane 0 is their keys
-  pub started-first :
+  pub started_first :
       (old new : List ℕ) (low n start : ℕ) →
       Between (λ k. get_or keys (start + (k - low)) 0) old new low (low + n) →
       low ≡ slot + 1 + first →
       start ≡ at + first →
       first + n ≡ past →
       StartedBelow p (λ x. get_or keys (at + x) 0) slot first past old new 1
-  started-first old new low n start b el es en =
+  started_first old new low n start b el es en =
       copied_more keys _ old old new slot (pitch_of p) 0 (first + 1) (past + 1) low n start (planes_none _ _ old slot (pitch_of p)) b
       (omega arith) (omega arith) (omega arith)
       (λ X l m. ap (λ (k : ℕ). get_or keys k 0) (let e : start + (X - (first + 1)) ≡ at + (X - 1) = omega arith in e)
       ∙ alone_first p.slack (get_or keys (at + (X - 1)) 0))
 
   -- a plane more is their keys raised to the slack
-  pub started-later :
+  pub started_later :
       (old mid new : List ℕ) (j low n start v : ℕ) →
       StartedBelow p (λ x. get_or keys (at + x) 0) slot first past old mid j →
       Between (λ k. max (get_or keys (start + (k - low)) 0) v) mid new low (low + n) →
@@ -143,7 +143,7 @@ module _ (p : Plan) (keys : List ℕ) (slot at first past : ℕ) (fits : past �
       start ≡ at + first →
       first + n ≡ past →
       StartedBelow p (λ x. get_or keys (at + x) 0) slot first past old new (j + 1)
-  started-later old mid new j low n start v s b ev l el es en =
+  started_later old mid new j low n start v s b ev l el es en =
       planes_more _ _ old mid new slot (pitch_of p) j (λ X i. omega (arith, i)) s
       (plane_run _ _ mid new slot (j * pitch_of p) (pitch_of p) (first + 1) (past + 1) low (low + n) b (omega arith) (omega arith) (omega arith)
       (λ X a o. ap (λ (k : ℕ). max (get_or keys k 0) v) (let e : start + (slot + (j * pitch_of p + X) - low) ≡ at + (X - 1) = omega arith in e)
@@ -177,7 +177,7 @@ module _ (old zeros : List ℕ) (slot : ℕ) (p : Plan) (lo hi : ℕ) (f : ℕ �
       (λ j l. zero_at j lo l (omega arith))
       (λ j l. zero_at j (hi + 1) l (omega arith))
 
-  pub started-held :
+  pub started_held :
       (new : List ℕ) (key : ℕ → ℕ) (first past : ℕ) →
       Started zeros new key slot p first past →
       lo ≤ first →
@@ -185,7 +185,7 @@ module _ (old zeros : List ℕ) (slot : ℕ) (p : Plan) (lo hi : ℕ) (f : ℕ �
       ((j x : ℕ) → first ≤ x → x < past → alone p.slack (key x) j ≡ f j x) →
       ((j x : ℕ) → lo ≤ x → x < hi → (x < first) ⊎ (past ≤ x) → 0 ≡ f j x) →
       RowHeld new slot p.planes (pitch_of p) lo hi f
-  started-held new key first past s after before some none =
+  started_held new key first past s after before some none =
       row_held new slot p.planes (pitch_of p) lo hi f
       record {
         is = λ j x l a b.

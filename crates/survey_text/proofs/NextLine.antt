@@ -14,10 +14,10 @@ module _ {A : Type 0} (name : List ℕ) (form : List ℕ → Option A) (l : Rest
   next_no_name e = rw (← e)
 
   module _ (value rest : List ℕ) (e : some (value, rest) ≡ named name l.bytes) where
-    pub next-no-value : none ≡ form value → refused 13 l.line ≡ next name form l
+    pub next_no_value : none ≡ form value → refused 13 l.line ≡ next name form l
     unfolding next
-    next-no-value f = rw (← e, ← f)
+    next_no_value f = rw (← e, ← f)
 
-    pub next-value : {a : A} → some a ≡ form value → accepted (a, record { line = l.line + 1; bytes = rest }) ≡ next name form l
+    pub next_value : {a : A} → some a ≡ form value → accepted (a, record { line = l.line + 1; bytes = rest }) ≡ next name form l
     unfolding next
-    next-value f = rw (← e, ← f)
+    next_value f = rw (← e, ← f)

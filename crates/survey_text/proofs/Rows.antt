@@ -70,8 +70,8 @@ module _ (s name : List ℕ) (W H : ℕ) (before out : List ℕ) (c here : Curso
     row_room = omega (arith, g.same, g.place, row_fits W H i h)
 
     -- the part that is lent has room for a row
-    row-length : length (take (start + W - start) (drop start out)) ≡ W
-    row-length = let e : start + W - start ≡ W = omega arith in
+    row_length : length (take (start + W - start) (drop start out)) ≡ W
+    row_length = let e : start + W - start ≡ W = omega arith in
         rw e (length-take-le W (drop start out) (simp length-drop (omega (arith, row_room))))
 
     -- the next line has a row, or refuses
@@ -80,9 +80,9 @@ module _ (s name : List ℕ) (W H : ℕ) (before out : List ℕ) (c here : Curso
         → Rows s name W H before (put_mid start (start + W - start) out row) c there (start + W) (i + 1)
     unfolding row_lines
     rows_more row there l m =
-        let f = rw row-length at m in
+        let f = rw row_length at m in
         let asked : H - i ≡ suc (H - (i + 1)) = omega arith in
-        let k : length row ≡ W = l ∙ row-length in
+        let k : length row ≡ W = l ∙ row_length in
         let front : length (take start out ++ row) ≡ start + W =
         length-append (take start out) row ∙ (let t = length-take-le start out (omega (arith, row_room)) in omega arith) in
         let t : take (start + W) (put_mid start (start + W - start) out row) ≡ take start out ++ row =

@@ -13,7 +13,7 @@ use Rattle.text_lines.specs.Format.{named, number}
 use Rattle.survey_text.specs.Reading.{◌>>=◌, Rest, next, opening, edition_line, size_lines, ends_line, setting_lines, plate_lines, reading}
 use Rattle.survey_text.specs.Cursors.{rest_from, stands, Counted, Step, Last}
 use Rattle.survey_text.specs.declared.cursor.Cursor.{Cursor}
-use Rattle.survey_text.proofs.NextLine.{next_no_name, next-no-value, next-value}
+use Rattle.survey_text.proofs.NextLine.{next_no_name, next_no_value, next_value}
 
 pub stands_refused : (text : List ℕ) (c : Cursor) → 0 < c.refused → stands text c ≡ refused c.refused c.line
 unfolding stands
@@ -62,8 +62,8 @@ module _ {A : Type 0} (text name : List ℕ) (form : List ℕ → Option A) (c :
   step_no_name value e = line_bad value (next_no_name name form (rest_from text c) e)
 
   module _ (got rest : List ℕ) (e : some (got, rest) ≡ named name (drop c.from text)) where
-    pub step-no-value : (value : A) → none ≡ form got → Step text c (next name form) value (bad c)
-    step-no-value value f = line_bad value (next-no-value name form (rest_from text c) got rest e f)
+    pub step_no_value : (value : A) → none ≡ form got → Step text c (next name form) value (bad c)
+    step_no_value value f = line_bad value (next_no_value name form (rest_from text c) got rest e f)
 
   -- it was read, up to the newline at `end`
   pub step_value : (got : List ℕ) (end : ℕ) → some (got, drop (end + 1) text) ≡ named name (drop c.from text) → (value : A) → some value ≡ form got →
@@ -71,7 +71,7 @@ module _ {A : Type 0} (text name : List ℕ) (form : List ℕ → Option A) (c :
   unfolding stands
   step_value got end e value f l =
       record {
-        told = rw (le-ltb 0 c.refused here) (next-value name form (rest_from text c) got (drop (end + 1) text) e f);
+        told = rw (le-ltb 0 c.refused here) (next_value name form (rest_from text c) got (drop (end + 1) text) e f);
         counted = record { few = omega (arith, counted.few) };
       }
 

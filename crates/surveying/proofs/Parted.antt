@@ -9,7 +9,7 @@ use lib.Seq.{drop-cons}
 use Rattle.text_lines.specs.Bytes.{comma}
 use Rattle.survey_text.specs.Printing.{parted}
 use Rattle.surveying.specs.Buffers.{Room, Written}
-use Rattle.surveying.proofs.Written.{Writing, writing-room, writing_more}
+use Rattle.surveying.proofs.Written.{Writing, writing_room, writing_more}
 
 -- each element behind a comma
 abbrev pub behind : {A : Type 0} → (A → List ℕ) → List A → List ℕ
@@ -39,15 +39,15 @@ module _ {A : Type 0} (show : A → List ℕ) (xs : List A) (d : A) (i : ℕ) (h
   behind_more = rw (add-one, drop-cons xs i d h)
 
   module _ {whole : List ℕ} {at : ℕ} {out now : List ℕ} {next : ℕ} (g : Writing whole (behind show (drop i xs)) at out now next) (room : Room whole at out) where
-    pub comma-room : Room (comma ∷ []) next now
-    comma-room = writing-room g room (comma ∷ []) following behind_more
+    pub comma_room : Room (comma ∷ []) next now
+    comma_room = writing_room g room (comma ∷ []) following behind_more
 
     module _ {mid : List ℕ} {m : ℕ} (w : Written (comma ∷ []) next now mid m) where
-      after-comma : Writing whole following at out mid m
-      after-comma = writing_more g room (comma ∷ []) following behind_more mid m w
+      after_comma : Writing whole following at out mid m
+      after_comma = writing_more g room (comma ∷ []) following behind_more mid m w
 
-      pub element-room : Room (show (get_or xs i d)) m mid
-      element-room = writing-room after-comma room (show (get_or xs i d)) (behind show (drop (i + 1) xs)) refl
+      pub element_room : Room (show (get_or xs i d)) m mid
+      element_room = writing_room after_comma room (show (get_or xs i d)) (behind show (drop (i + 1) xs)) refl
 
-      pub element-written : (after : List ℕ) (n : ℕ) → Written (show (get_or xs i d)) m mid after n → Writing whole (behind show (drop (i + 1) xs)) at out after n
-      element-written after n v = writing_more after-comma room (show (get_or xs i d)) (behind show (drop (i + 1) xs)) refl after n v
+      pub element_written : (after : List ℕ) (n : ℕ) → Written (show (get_or xs i d)) m mid after n → Writing whole (behind show (drop (i + 1) xs)) at out after n
+      element_written after n v = writing_more after_comma room (show (get_or xs i d)) (behind show (drop (i + 1) xs)) refl after n v

@@ -46,8 +46,8 @@ module _ (xs ys : List ℕ) {at : ℕ} {out : List ℕ} (room : Room (xs ++ ys) 
       rw (front, back, length-append xs ys, ← add_assoc at (length xs) (length ys), append_assoc t xs ys)
 
   module _ {mid : List ℕ} {m : ℕ} (w : Written xs at out mid m) where
-    pub room-then : Room ys m mid
-    room-then = record { fits = omega (arith, room.fits, length-append xs ys, w.behind, written_length room_first w) }
+    pub room_then : Room ys m mid
+    room_then = record { fits = omega (arith, room.fits, length-append xs ys, w.behind, written_length room_first w) }
 
     pub written_then : {after : List ℕ} {next : ℕ} → Written ys m mid after next → Written (xs ++ ys) at out after next
     written_then v = record {
@@ -65,15 +65,15 @@ module _ (xs ys zs : List ℕ) {at : ℕ} {out : List ℕ} (room : Room (xs ++ y
   room_one = room_first xs ys two_room
 
   module _ {o : List ℕ} {m : ℕ} (w : Written xs at out o m) where
-    pub room-two : Room ys m o
-    room-two = room-then xs ys two_room w
+    pub room_two : Room ys m o
+    room_two = room_then xs ys two_room w
 
     module _ {p : List ℕ} {n : ℕ} (v : Written ys m o p n) where
-      pub room-three : Room zs n p
-      room-three = room-then (xs ++ ys) zs room (written_then xs ys two_room w v)
+      pub room_three : Room zs n p
+      room_three = room_then (xs ++ ys) zs room (written_then xs ys two_room w v)
 
-      pub written-three : {q : List ℕ} {r : ℕ} → Written zs n p q r → Written (xs ++ ys ++ zs) at out q r
-      written-three u = written_then (xs ++ ys) zs room (written_then xs ys two_room w v) u
+      pub written_three : {q : List ℕ} {r : ℕ} → Written zs n p q r → Written (xs ++ ys ++ zs) at out q r
+      written_three u = written_then (xs ++ ys) zs room (written_then xs ys two_room w v) u
 
 -- ---- a write that goes part by part
 
@@ -104,8 +104,8 @@ module _ {whole rest : List ℕ} {at : ℕ} {out now : List ℕ} {next : ℕ} (g
     part_room : Room (g.said ++ part) at out
     part_room = room_first (g.said ++ part) more (rw whole_is room)
 
-    pub writing-room : Room part next now
-    writing-room = room-then g.said part part_room g.written
+    pub writing_room : Room part next now
+    writing_room = room_then g.said part part_room g.written
 
     pub writing_more : (after : List ℕ) (m : ℕ) → Written part next now after m → Writing whole more at out after m
     writing_more after m v = record {

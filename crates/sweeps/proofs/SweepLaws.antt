@@ -181,19 +181,19 @@ module _ (p o : Plan) (states : ℕ) (sound : Sound p) (sound' : Sound o) (oppos
     same₂ q h = c.under q (omega arith) ∙ same₁ q h
 
     -- the other side's state is made, and stays while this side's states are fetched
-    other-made : (keys : ℕ → ℕ) (f g : ℕ → ℕ → ℕ → ℕ → ℕ) → KeysAre work₀ p keys → Sequence p keys states f → Sequence o keys states g → Holds work₂ ends o e (g e)
-    other-made keys f g k u v =
+    other_made : (keys : ℕ → ℕ) (f g : ℕ → ℕ → ℕ → ℕ → ℕ) → KeysAre work₀ p keys → Sequence p keys states f → Sequence o keys states g → Holds work₂ ends o e (g e)
+    other_made keys f g k u v =
         holds_apart o sound' work₁ work₂ ends e lo hi (g e) (omega (arith, opposite.few)) c (inr below)
         (made o sound' work work₁ keys states e ends ends g (omega (arith, opposite.few)) l a
         (keys_other work keys (keys_then work₀ work keys s.keys k)) v (s.is keys f g k u v).1)
 
-    pub swept-more : (first : ℕ) → LastAt p states first work₀ work₂ from → Joined p first (d + 1) work₂ best best' from ends →
+    pub swept_more : (first : ℕ) → LastAt p states first work₀ work₂ from → Joined p first (d + 1) work₂ best best' from ends →
         SweptTo p o states (e + 1) work₀ best₀ work₂ best' ends
-    swept-more first last j =
+    swept_more first last j =
         record {
           keys = same₂;
           is = λ keys f g k u v.
-              let there = other-made keys f g k u v in
+              let there = other_made keys f g k u v in
               let before = subst (λ (n : ℕ). AllJoined p states n f g best₀ best) (let w : states - e ≡ d + 1 = omega arith in w) (s.is keys f g k u v).0 in
               let these = chain_here p sound work₂ keys states first (d + 1) f (omega (arith, opposite.few)) (omega arith) (keys_then work₀ work₂ keys same₂ k) u in
               let this : d + 1 - 1 ≡ d = omega arith in
@@ -207,20 +207,20 @@ module _ (p o : Plan) (states : ℕ) (sound : Sound p) (sound' : Sound o) (oppos
         }
 
     -- the stack, with the wanted state on its top or near
-    stack-fetched : (marks marks' : List ℕ) (k : Stack) (depth spare : ℕ) → k.base + k.depth * state_size p ≤ ends →
+    stack_fetched : (marks marks' : List ℕ) (k : Stack) (depth spare : ℕ) → k.base + k.depth * state_size p ≤ ends →
         StackKept p states work₀ work marks k.base k.depth → Fetched p k depth d spare work₁ marks work₂ marks' →
         StackKept p states work₀ work₂ marks' k.base depth
-    stack-fetched marks marks' k depth spare room h f =
+    stack_fetched marks marks' k depth spare room h f =
         record {
           is = λ keys g q u.
               f.is keys g (keys_then work₀ work₁ keys same₁ q) (fewer p sound keys states d g (omega arith) u)
               (stacked_apart p sound work work₁ marks k.base k.depth ends (ends + state_size o) g a.apart room (h.is keys g q u));
         }
 
-    top-at : (marks : List ℕ) (base depth first : ℕ) → StackKept p states work₀ work₂ marks base depth → first ≡ last_mark marks depth →
+    top_at : (marks : List ℕ) (base depth first : ℕ) → StackKept p states work₀ work₂ marks base depth → first ≡ last_mark marks depth →
         from ≡ base + (depth - 1) * state_size p → LastAt p states first work₀ work₂ from
-    top-at marks base depth first h is-first is-from =
-        record { is = λ keys f k u. top_holds p sound work₂ marks base depth first from f (h.is keys f k u) is-first is-from }
+    top_at marks base depth first h is-first is_from =
+        record { is = λ keys f k u. top_holds p sound work₂ marks base depth first from f (h.is keys f k u) is-first is_from }
 
   -- one turn of a sweep with a stack: the sweep is one state further, and the stack that came back is one of this side's states
   pub linked_turn : (e d places from first spare : ℕ) (k r : Stack) (work₀ best₀ work best work₁ work₂ best' marks marks' : List ℕ) → e < states → d ≡ states - 1 - e →
@@ -229,7 +229,7 @@ module _ (p o : Plan) (states : ℕ) (sound : Sound p) (sound' : Sound o) (oppos
       Advanced o e (e + 1) work work₁ (keys_size p + places * state_size p) (keys_size p + places * state_size p) →
       Fetched p k r.depth d spare work₁ marks work₂ marks' → Joined p first (d + 1) work₂ best best' from (keys_size p + places * state_size p) →
       SweptTo p o states (e + 1) work₀ best₀ work₂ best' (keys_size p + places * state_size p) × StackKept p states work₀ work₂ marks' r.base r.depth
-  linked_turn e d places from first spare k r work₀ best₀ work best work₁ work₂ best' marks marks' l is-d at same is-from is-first s h a f j =
+  linked_turn e d places from first spare k r work₀ best₀ work best work₁ work₂ best' marks marks' l is-d at same is_from is-first s h a f j =
       let ends = keys_size p + places * state_size p in
       let top = k.base + k.places * state_size p in
       let clear : keys_size p ≤ ends = omega arith in
@@ -237,10 +237,10 @@ module _ (p o : Plan) (states : ℕ) (sound : Sound p) (sound' : Sound o) (oppos
       let below : top ≤ ends = omega (arith, at.is_base, rows_fit k.places 0 places (state_size p) (omega (arith, at.is_places))) in
       let room : k.base + k.depth * state_size p ≤ ends = omega (arith, at.is_base, rows_fit k.depth 0 places (state_size p) (omega (arith, at.deep))) in
       let kept = subst (λ (n : ℕ). StackKept p states work₀ work₂ marks' n r.depth) (sym same)
-      (stack-fetched e d ends l is-d work₀ best₀ work best work₁ work₂ best' k.base top from clear past_keys below s a f.apart
+      (stack_fetched e d ends l is-d work₀ best₀ work best work₁ work₂ best' k.base top from clear past_keys below s a f.apart
       marks marks' k r.depth spare room h f) in
-      let last = top-at e d ends l is-d work₀ best₀ work best work₁ work₂ best' k.base top from clear past_keys below s a f.apart
-      marks' r.base r.depth first kept is-first is-from in (
-        swept-more e d ends l is-d work₀ best₀ work best work₁ work₂ best' k.base top from clear past_keys below s a f.apart first last j,
+      let last = top_at e d ends l is-d work₀ best₀ work best work₁ work₂ best' k.base top from clear past_keys below s a f.apart
+      marks' r.base r.depth first kept is-first is_from in (
+        swept_more e d ends l is-d work₀ best₀ work best work₁ work₂ best' k.base top from clear past_keys below s a f.apart first last j,
         kept,
       )

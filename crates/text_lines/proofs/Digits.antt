@@ -83,10 +83,10 @@ module _ (s : List ℕ) (one : length s ≡ 1) where
   edition_one e = edition_byte s one ∙ rw (eq-eqb (get_or s 0 0) 49 e)
 
   module _ (other : get_or s 0 0 ≡ 49 → ⊥) where
-    pub edition-two : get_or s 0 0 ≡ 50 → edition s ≡ some 2
+    pub edition_two : get_or s 0 0 ≡ 50 → edition s ≡ some 2
     unfolding is
-    edition-two e = edition_byte s one ∙ rw (ne_eqb (get_or s 0 0) 49 other, eq-eqb (get_or s 0 0) 50 e)
+    edition_two e = edition_byte s one ∙ rw (ne_eqb (get_or s 0 0) 49 other, eq-eqb (get_or s 0 0) 50 e)
 
-    pub edition-none : (get_or s 0 0 ≡ 50 → ⊥) → edition s ≡ none
+    pub edition_none : (get_or s 0 0 ≡ 50 → ⊥) → edition s ≡ none
     unfolding is
-    edition-none e = edition_byte s one ∙ rw (ne_eqb (get_or s 0 0) 49 other, ne_eqb (get_or s 0 0) 50 e)
+    edition_none e = edition_byte s one ∙ rw (ne_eqb (get_or s 0 0) 49 other, ne_eqb (get_or s 0 0) 50 e)

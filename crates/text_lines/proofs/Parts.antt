@@ -130,9 +130,9 @@ module _ (s start out : List ℕ) (from k n : ℕ) (g : Listing s start out from
         g.filled ∙ rw (place, p, ← part_is, ← e, behind, ← stored) (sym (append_snoc (take k out) v (filled_by ps (drop (k + 1) (set out k v)))))
 
     -- it is the last part
-    last-told : length s ≤ from + n → whether (eqb (k + 1) (length (set out k v))) (set out k v) ≡ list (length start) s
+    last_told : length s ≤ from + n → whether (eqb (k + 1) (length (set out k v))) (set out k v) ≡ list (length start) s
     unfolding numbers
-    last-told l =
+    last_told l =
         let size = length-set out k v in
         ⊎_elim
         (λ j. let z : length start - (k + 1) ≡ 0 = omega arith in
@@ -143,17 +143,17 @@ module _ (s start out : List ℕ) (from k n : ℕ) (g : Listing s start out from
         (sym (g.rest ∙ rw (asked, z, last_part l, ← part_is, ← e))))
         (le_or_lt (length start) (k + 1))
 
-    last-filled : length s ≤ from + n → set out k v ≡ filled_by (parts s) start
+    last_filled : length s ≤ from + n → set out k v ≡ filled_by (parts s) start
     unfolding filled_by
-    last-filled l = sym (filled_more [] (last_part l) ∙ take-append-drop (k + 1) (set out k v))
+    last_filled l = sym (filled_more [] (last_part l) ∙ take-append-drop (k + 1) (set out k v))
 
-    pub listing-last : length s ≤ from + n → (whether (eqb (k + 1) (length (set out k v))) (set out k v) ≡ list (length start) s) × (set out k v ≡ filled_by (parts s) start)
-    listing-last l = (last-told l, last-filled l)
+    pub listing_last : length s ≤ from + n → (whether (eqb (k + 1) (length (set out k v))) (set out k v) ≡ list (length start) s) × (set out k v ≡ filled_by (parts s) start)
+    listing_last l = (last_told l, last_filled l)
 
     -- a comma follows it
-    pub listing-more : from + n < length s → Listing s start (set out k v) (from + n + 1) (k + 1)
+    pub listing_more : from + n < length s → Listing s start (set out k v) (from + n + 1) (k + 1)
     unfolding numbers
-    listing-more l =
+    listing_more l =
         record {
           inside = omega arith;
           few = omega arith;

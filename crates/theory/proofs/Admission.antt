@@ -1,5 +1,5 @@
 -- The laws of `admits`: which paths count at a level. A path with no pixel below that is not below on an admitted one is admitted, and the rest
--- follows, for both values of `ends`. The text of `admits` is opened by `admitted_few`, `admitted_ends` and `few-admitted` alone (the worked plates
+-- follows, for both values of `ends`. The text of `admits` is opened by `admitted_few`, `admitted_ends` and `few_admitted` alone (the worked plates
 -- aside, which are computed).
 use Prim.Native.Nat.{ℕ, ◌+◌, ◌≤◌, ◌<◌}
 use mathlib.Core.Path.{◌≡◌, refl, ◌∙◌}
@@ -76,51 +76,51 @@ module _ (s : Setting) where
   admitted_ends f t path a e =
       eqb-true (below f t (ends_of path)) 0 (T_true _ (rw e at (and_both (leb (below f t path) s.gaps) _ a).1))
 
-  pub few-admitted :
+  pub few_admitted :
       (f : List ℤ) (t : ℤ) (path : List ℕ) → below f t path ≤ s.gaps → (s.ends ≡ 1 → below f t (ends_of path) ≡ 0) → T (admits s f t path)
   unfolding admits
-  few-admitted f t path h e =
+  few_admitted f t path h e =
       both_and (leb (below f t path) s.gaps) _ (le→leb (below f t path) s.gaps h)
       (asked s.ends (eqb (below f t (ends_of path)) 0) (λ one. true_T _ (eq-eqb (below f t (ends_of path)) 0 (e one))))
 
   -- ---- what the count gives
 
   -- where each pixel that is below u in g is below t in f, a path admitted in f at t is admitted in g at u
-  pub admitted-fewer :
+  pub admitted_fewer :
       (f g : List ℤ) (t u : ℤ) (path : List ℕ) → ((p : ℕ) → Memᴰ p path → level_at g p <ℤ u → level_at f p <ℤ t) →
       T (admits s f t path) → T (admits s g u path)
-  admitted-fewer f g t u path h a =
-      few-admitted g u path (omega (arith, below_fewer f g t u path h, admitted_few f t path a))
+  admitted_fewer f g t u path h a =
+      few_admitted g u path (omega (arith, below_fewer f g t u path h, admitted_few f t path a))
       (λ one. omega (arith, below_fewer f g t u (ends_of path) (λ p i. h p (ends_on_path path p i)), admitted_ends f t path a one))
 
   -- a path with no pixel below t is admitted at t
   pub admitted_clear : (f : List ℤ) (t : ℤ) (path : List ℕ) → ((p : ℕ) → Memᴰ p path → t ≤ℤ level_at f p) → T (admits s f t path)
   admitted_clear f t path h =
-      few-admitted f t path (omega (arith, below_none f t path h)) (λ one. below_none f t (ends_of path) (λ p i. h p (ends_on_path path p i)))
+      few_admitted f t path (omega (arith, below_none f t path h)) (λ one. below_none f t (ends_of path) (λ p i. h p (ends_on_path path p i)))
 
   -- a part of an admitted path is admitted, where its ends may be gaps
-  pub admitted-part :
+  pub admitted_part :
       s.ends ≡ 0 → (f : List ℤ) (t : ℤ) {ps : List ℕ} (before part after : List ℕ) → ps ≡ before ++ (part ++ after) →
       T (admits s f t ps) → T (admits s f t part)
-  admitted-part free f t {ps} before part after whole a =
+  admitted_part free f t {ps} before part after whole a =
       let n : below f t (before ++ (part ++ after)) ≤ s.gaps = admitted_few f t _ (rw whole at a) in
-      few-admitted f t part (omega (arith, below_append f t before (part ++ after), below_append f t part after)) (λ one. absurd (omega arith))
+      few_admitted f t part (omega (arith, below_append f t before (part ++ after), below_append f t part after)) (λ one. absurd (omega arith))
 
   -- ---- what follows
 
-  pub admitted-monotone :
+  pub admitted_monotone :
       (f g : List ℤ) (t : ℤ) (path : List ℕ) → ((p : ℕ) → Memᴰ p path → level_at f p ≤ℤ level_at g p) →
       T (admits s f t path) → T (admits s g t path)
-  admitted-monotone f g t path h = admitted-fewer f g t t path (λ p i l. ≤ℤ-<ℤ-trans (h p i) l)
+  admitted_monotone f g t path h = admitted_fewer f g t t path (λ p i l. ≤ℤ-<ℤ-trans (h p i) l)
 
   -- a plate counts only by which pixels of the path are below t
-  pub admits-by-below :
+  pub admits_by_below :
       (f g : List ℤ) (t : ℤ) (path : List ℕ) → ((p : ℕ) → Memᴰ p path → lt_z (level_at f p) t ≡ lt_z (level_at g p) t) →
       admits s f t path ≡ admits s g t path
-  admits-by-below f g t path h =
+  admits_by_below f g t path h =
       same_test (admits s f t path) (admits s g t path)
-      (admitted-fewer f g t t path (λ p i l. lt_z_yes (rw (h p i) l.lt)))
-      (admitted-fewer g f t t path (λ p i l. lt_z_yes (rw (← h p i) l.lt)))
+      (admitted_fewer f g t t path (λ p i l. lt_z_yes (rw (h p i) l.lt)))
+      (admitted_fewer g f t t path (λ p i l. lt_z_yes (rw (← h p i) l.lt)))
 
   pub admitted_lowest : (f : List ℤ) (path : List ℕ) → ((p : ℕ) → mag (level_at f p) < 32768) → T (admits s f lowest path)
   admitted_lowest f path size = admitted_clear f lowest path (λ p i. lowest_le (level_at f p) (size p))
@@ -129,4 +129,4 @@ module _ (s : Setting) where
 pub admitted_by_gaps :
     (s s' : Setting) (f : List ℤ) (t : ℤ) (path : List ℕ) → s.gaps ≡ s'.gaps → s.ends ≡ s'.ends → T (admits s f t path) → T (admits s' f t path)
 admitted_by_gaps s s' f t path e d a =
-    few-admitted s' f t path (omega (arith, admitted_few s f t path a)) (λ one. admitted_ends s f t path a (d ∙ one))
+    few_admitted s' f t path (omega (arith, admitted_few s f t path a)) (λ one. admitted_ends s f t path a (d ∙ one))

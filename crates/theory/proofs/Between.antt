@@ -13,7 +13,7 @@ use Rattle.plate.specs.declared.setting.Setting.{Setting}
 use Rattle.theory.specs.Modes.{Levels}
 use Rattle.theory.specs.Between.{LiesBetween, Bounds}
 use Rattle.theory.proofs.Opening.{levels_within}
-use Rattle.theory.proofs.Mirror.{filtered-length, filtered-monotone}
+use Rattle.theory.proofs.Mirror.{filtered_length, filtered_monotone}
 
 module _ (s : Setting) (W H : ℕ) (low high : List ℤ) (levels-low : Levels low) (levels-high : Levels high) where
   -- what lies between levels of 16 bits has 16 bits
@@ -25,21 +25,21 @@ module _ (s : Setting) (W H : ℕ) (low high : List ℤ) (levels-low : Levels lo
 
   module _ (sized_low : length low ≡ W * H) (sized_high : length high ≡ W * H) (ordered : (x : ℕ) → x < W * H → level_at low x ≤ℤ level_at high x) where
     -- the two are between themselves
-    low-between : LiesBetween W H low high low
-    low-between = record { sized = sized_low; not_below = λ x on. ≤ℤ_refl (level_at low x); not_above = ordered }
+    low_between : LiesBetween W H low high low
+    low_between = record { sized = sized_low; not_below = λ x on. ≤ℤ_refl (level_at low x); not_above = ordered }
 
-    high-between : LiesBetween W H low high high
-    high-between = record { sized = sized_high; not_below = ordered; not_above = λ x on. ≤ℤ_refl (level_at high x) }
+    high_between : LiesBetween W H low high high
+    high_between = record { sized = sized_high; not_below = ordered; not_above = λ x on. ≤ℤ_refl (level_at high x) }
 
-    pub filtered-bounds : Bounds s W H low high (filtered s W H low) (filtered s W H high)
-    filtered-bounds =
+    pub filtered_bounds : Bounds s W H low high (filtered s W H low) (filtered s W H high)
+    filtered_bounds =
         record {
           within = λ f b.
               record {
-                sized = filtered-length s W H f;
-                not_below = filtered-monotone s W H low f sized_low b.sized levels-low (between_levels f b) b.not_below;
-                not_above = filtered-monotone s W H f high b.sized sized_high (between_levels f b) levels-high b.not_above;
+                sized = filtered_length s W H f;
+                not_below = filtered_monotone s W H low f sized_low b.sized levels-low (between_levels f b) b.not_below;
+                not_above = filtered_monotone s W H f high b.sized sized_high (between_levels f b) levels-high b.not_above;
               };
-          low-attained = λ x on. record { plate = low; between = low-between; filters-to = refl };
-          high-attained = λ x on. record { plate = high; between = high-between; filters-to = refl };
+          low_attained = λ x on. record { plate = low; between = low_between; filters_to = refl };
+          high_attained = λ x on. record { plate = high; between = high_between; filters_to = refl };
         }

@@ -24,8 +24,8 @@ use Rattle.theory.proofs.Listed.{listed_walk, walk_listed, walk_started, paths_f
 use Rattle.theory.proofs.Reversal.{turn, turn_back}
 use Rattle.theory.proofs.Walks.{walk_ends}
 use Rattle.theory.proofs.LevelSets.{under_low, under_high}
-use Rattle.theory.proofs.Admission.{admitted_few, admitted_ends, few-admitted}
-use Rattle.theory.proofs.Opening.{Counts, opened-is}
+use Rattle.theory.proofs.Admission.{admitted_few, admitted_ends, few_admitted}
+use Rattle.theory.proofs.Opening.{Counts, opened_is}
 use Rattle.theory.proofs.Maxima.{best_find, best_keep, upto_find, upto_keep}
 use Rattle.theory.proofs.Splitting.{Crossing, Halves, split, unsplit}
 
@@ -69,11 +69,11 @@ module _ (f : List ℤ) (sized : (p : ℕ) → mag (level_at f p) < 32768) where
   below_keys t (p ∷ ps) = rw (lt_z_key (level_at f p) t (sized p), below_keys t ps)
 
   -- the ends of a walk that are below
-  below-ends :
+  below_ends :
       {next : ℕ → List ℕ} {m p : ℕ} {ps : List ℕ} (t : ℕ) → Walk next m p ps →
       below f (level t) (ends_of ps) ≡ under t (key_at f p) + under t (key_at f (last_of ps))
   unfolding low_pixels
-  below-ends {p = p} {ps} t w = omega (arith, below_keys t (ends_of ps), ap (low_pixels (key_at f) t) (walk_ends w))
+  below_ends {p = p} {ps} t w = omega (arith, below_keys t (ends_of ps), ap (low_pixels (key_at f) t) (walk_ends w))
 
   -- L pixels are m steps: L = m + 1
   module _ (s : Setting) (W H m x : ℕ) where
@@ -81,13 +81,13 @@ module _ (f : List ℤ) (sized : (p : ℕ) → mag (level_at f p) < 32768) where
     slack = gap_end s.ends
 
     -- a path that counts at a level is, in one of the chosen directions, a walk that counts at its key
-    counts-crossing : s.length ≡ suc m → (t : ℕ) → t ≤ 65535 → Counts s W H f x (level t) →
+    counts_crossing : s.length ≡ suc m → (t : ℕ) → t ≤ 65535 → Counts s W H f x (level t) →
         (bit : ℕ) × Memᴰ bit (chosen s.directions) × Crossing slack (next W H bit) (key_at f) t m s.gaps x
-    counts-crossing long t small c =
+    counts_crossing long t small c =
         let d = paths_find W H s.directions (suc m) c.path (rw long at c.listed) in
         let l = listed_walk W H d.0 m c.path d.2 in
         let clear : s.ends ≡ 1 → under t (key_at f l.start) + under t (key_at f (last_of c.path)) ≡ 0 =
-        λ one. omega (arith, below-ends t l.walk, admitted_ends s f (level t) c.path c.admitted one) in (
+        λ one. omega (arith, below_ends t l.walk, admitted_ends s f (level t) c.path c.admitted one) in (
           d.0,
           d.1,
           record {
@@ -101,53 +101,53 @@ module _ (f : List ℤ) (sized : (p : ℕ) → mag (level_at f p) < 32768) where
           },
         )
 
-    pub walk-admitted :
+    pub walk_admitted :
         {next : ℕ → List ℕ} {p : ℕ} {ps : List ℕ} (t : ℕ) → Walk next m p ps → low_pixels (key_at f) t ps ≤ s.gaps →
         t ≤ ended slack (key_at f p) → t ≤ ended slack (key_at f (last_of ps)) → T (admits s f (level t) ps)
-    walk-admitted {ps = ps} t w few starts ends =
-        few-admitted s f (level t) ps (omega (arith, below_keys t ps))
-        (λ one. omega (arith, below-ends t w, ended_clear s.ends t _ starts one, ended_clear s.ends t _ ends one))
+    walk_admitted {ps = ps} t w few starts ends =
+        few_admitted s f (level t) ps (omega (arith, below_keys t ps))
+        (λ one. omega (arith, below_ends t w, ended_clear s.ends t _ starts one, ended_clear s.ends t _ ends one))
 
-    crossing-counts : x < W * H → s.length ≡ suc m → (t bit : ℕ) → Memᴰ bit (chosen s.directions) →
+    crossing_counts : x < W * H → s.length ≡ suc m → (t bit : ℕ) → Memᴰ bit (chosen s.directions) →
         Crossing slack (next W H bit) (key_at f) t m s.gaps x → Counts s W H f x (level t)
-    crossing-counts on long t bit i c =
+    crossing_counts on long t bit i c =
         let j = walk_listed W H bit (walk_started W H bit c.walk c.crosses on) c.walk in
         record {
           path = c.pixels;
           listed = rw long (paths_keep W H s.directions (suc m) i j);
           crosses = c.crosses;
-          admitted = walk-admitted t c.walk c.few c.starts c.ends;
+          admitted = walk_admitted t c.walk c.few c.starts c.ends;
         }
 
-    abbrev across-in : ℕ → ℕ
-    across-in bit = in_direction slack W H bit m s.gaps (key_at f) x
+    abbrev across_in : ℕ → ℕ
+    across_in bit = in_direction slack W H bit m s.gaps (key_at f) x
 
     abbrev opened_key : ℕ
     opened_key = value slack W H (chosen s.directions) m s.gaps (key_at f) x
 
-    counts-value : s.length ≡ suc m → (t : ℕ) → t ≤ key_at f x → Counts s W H f x (level t) → t ≤ opened_key
+    counts_value : s.length ≡ suc m → (t : ℕ) → t ≤ key_at f x → Counts s W H f x (level t) → t ≤ opened_key
     unfolding value
-    counts-value long t low c =
+    counts_value long t low c =
         let small : t ≤ 65535 = omega (arith, key_bound (level_at f x) (sized x)) in
-        let r = counts-crossing long t small c in
+        let r = counts_crossing long t small c in
         let bit : ℕ = r.0 in
         let halves = split slack (next W H bit) (back W H bit) (key_at f) t (turn W H bit) low r.2 in
-        omega (arith, best_keep across-in t bit r.1 (across_keep halves))
+        omega (arith, best_keep across_in t bit r.1 (across_keep halves))
 
-    value-counts : x < W * H → s.length ≡ suc m → (t : ℕ) → 1 ≤ t → t ≤ opened_key → Counts s W H f x (level t)
+    value_counts : x < W * H → s.length ≡ suc m → (t : ℕ) → 1 ≤ t → t ≤ opened_key → Counts s W H f x (level t)
     unfolding value
-    value-counts on long t positive h =
-        let r = best_find across-in t (chosen s.directions) positive (omega arith) in
+    value_counts on long t positive h =
+        let r = best_find across_in t (chosen s.directions) positive (omega arith) in
         let bit : ℕ = r.0 in
         let halves = across_find t m s.gaps x r.2 in
-        crossing-counts on long t bit r.1 (unsplit slack (next W H bit) (back W H bit) (key_at f) t (turn_back W H bit) positive halves)
+        crossing_counts on long t bit r.1 (unsplit slack (next W H bit) (back W H bit) (key_at f) t (turn_back W H bit) positive halves)
 
-    value-below-own : opened_key ≤ key_at f x
+    value_below_own : opened_key ≤ key_at f x
     unfolding value
-    value-below-own = omega arith
+    value_below_own = omega arith
 
-    pub opened-value : x < W * H → s.length ≡ suc m →
+    pub opened_value : x < W * H → s.length ≡ suc m →
         opened_at s W H f x ≡ level (value (gap_end s.ends) W H (chosen s.directions) m s.gaps (key_at f) x)
-    opened-value on long =
-        opened-is s W H f x opened_key value-below-own (λ positive. value-counts on long opened_key positive (omega arith))
-        (λ t positive low c. counts-value long t low c)
+    opened_value on long =
+        opened_is s W H f x opened_key value_below_own (λ positive. value_counts on long opened_key positive (omega arith))
+        (λ t positive low c. counts_value long t low c)

@@ -75,11 +75,11 @@ module _ (test : ℤ → Bool) where
       (λ h. inr (let e : n ≡ 0 = omega arith in ap (λ (m : ℕ). level m) e)) (le_or_lt 1 n)
 
   -- the highest level by its key
-  pub highest-is :
+  pub highest_is :
       (v : ℤ) (n : ℕ) → n ≤ key v → (1 ≤ n → T (test (level n))) → ((t : ℕ) → 1 ≤ t → t ≤ key v → T (test (level t)) → t ≤ n) →
       highest test v ≡ level n
   unfolding highest
-  highest-is v n h passes top = ap (λ (m : ℕ). level m) (greatest_is (λ t. test (level t)) (key v) n h passes top)
+  highest_is v n h passes top = ap (λ (m : ℕ). level m) (greatest_is (λ t. test (level t)) (key v) n h passes top)
 
   pub highest_passes : (v : ℤ) → lowest <ℤ highest test v → T (test (highest test v))
   highest_passes v h = ⊎_elim (λ p. p) (λ e. clash_ℤ h (rw e (≤ℤ_refl lowest))) (highest_passes_or_lowest v)

@@ -12,7 +12,7 @@ use Rattle.plate.specs.Opening.{level_at, opened_at, opened}
 use Rattle.plate.specs.declared.setting.Setting.{Setting}
 use Rattle.theory.specs.Modes.{Levels}
 use Rattle.plate.proofs.Keys.{lowest_le}
-use Rattle.theory.proofs.Admission.{admits-by-below}
+use Rattle.theory.proofs.Admission.{admits_by_below}
 use Rattle.theory.proofs.Opening.{Counts, recounted, counts_along, counts_on, opened_same, level_at_opened, opened_at_size, opened_levels, opened_below_own, opened_counts_or_lowest, opened_highest}
 
 module _ (s : Setting) (W H : ℕ) (f : List ℤ) (l : Levels f) where
@@ -27,7 +27,7 @@ module _ (s : Setting) (W H : ℕ) (f : List ℤ) (l : Levels f) where
 
   counts_again : {x : ℕ} {t : ℤ} → mag t < 32768 → Counts s W H f x t → Counts s W H (opened s W H f) x t
   counts_again {t = t} st c =
-      recounted s W H c (rw (admits-by-below s f (opened s W H f) t c.path (below_again st c)) at c.admitted)
+      recounted s W H c (rw (admits_by_below s f (opened s W H f) t c.path (below_again st c)) at c.admitted)
 
   pub opened_at_again : (x : ℕ) → x < W * H → opened_at s W H (opened s W H f) x ≡ opened_at s W H f x
   opened_at_again x h =

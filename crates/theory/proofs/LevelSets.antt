@@ -75,27 +75,27 @@ module _ (slack : ℕ) (next : ℕ → List ℕ) (g : ℕ → ℕ) (t : ℕ) whe
       before_any s.1 r.1 (reach_good positive m s.0 r.0 r.2))
       (le_max_split t _ _ h)
 
-  walk-reach :
+  walk_reach :
       {m p : ℕ} {ps : List ℕ} → Walk next m p ps → t ≤ ended slack (g (last_of ps)) → (j : ℕ) → low_pixels g t ps ≤ j → t ≤ best_walk slack next g m j p
   unfolding best_walk low_pixels alone fewer last_of last_after
-  walk-reach (stop {p}) e zero h =
+  walk_reach (stop {p}) e zero h =
       ⊎_elim (λ a. a) (λ b. absurd (omega (arith, under_low t (g p) b))) (le_or_lt t (g p))
-  walk-reach stop e (suc j) h = e
-  walk-reach (go {m} {p} {q} {ps} i w) e zero h =
+  walk_reach stop e (suc j) h = e
+  walk_reach (go {m} {p} {q} {ps} i w) e zero h =
       let f : t ≤ ended slack (g (last_of ps)) = rw (last_on p w) at e in
       ⊎_elim
-      (λ a. omega (arith, best_keep (best_walk slack next g m zero) t q i (walk-reach w f zero (omega (arith, under_high t (g p) a)))))
+      (λ a. omega (arith, best_keep (best_walk slack next g m zero) t q i (walk_reach w f zero (omega (arith, under_high t (g p) a)))))
       (λ b. absurd (omega (arith, under_low t (g p) b)))
       (le_or_lt t (g p))
-  walk-reach (go {m} {p} {q} {ps} i w) e (suc j) h =
+  walk_reach (go {m} {p} {q} {ps} i w) e (suc j) h =
       let f : t ≤ ended slack (g (last_of ps)) = rw (last_on p w) at e in
       ⊎_elim
-      (λ a. omega (arith, best_keep (best_walk slack next g m (suc j)) t q i (walk-reach w f (suc j) (omega (arith, under_high t (g p) a)))))
-      (λ b. omega (arith, best_keep (best_walk slack next g m j) t q i (walk-reach w f j (omega (arith, under_low t (g p) b)))))
+      (λ a. omega (arith, best_keep (best_walk slack next g m (suc j)) t q i (walk_reach w f (suc j) (omega (arith, under_high t (g p) a)))))
+      (λ b. omega (arith, best_keep (best_walk slack next g m j) t q i (walk_reach w f j (omega (arith, under_low t (g p) b)))))
       (le_or_lt t (g p))
 
   pub good_reach : (m j p : ℕ) → Good slack next g t m j p → t ≤ best_walk slack next g m j p
-  good_reach m j p w = walk-reach w.walk w.ends j w.few
+  good_reach m j p w = walk_reach w.walk w.ends j w.few
 
 -- ---- for a program that computes it: the recursion step by step, and what need not be visited
 

@@ -18,7 +18,7 @@ use Rattle.plate.specs.Opening.{level_at, opened_at, opened, closed, filtered}
 use Rattle.plate.specs.declared.setting.Setting.{Setting}
 use Rattle.theory.specs.Modes.{Levels, as_mode}
 use Rattle.plate.proofs.Keys.{mirror_mirror, mirror_size, mirror_reverses}
-use Rattle.theory.proofs.Opening.{levels_within, Counts, opened_length, level_at_opened, opened_levels, opened_below_own, opened_attained, opened_highest, opened_uncrossed, opened-monotone}
+use Rattle.theory.proofs.Opening.{levels_within, Counts, opened_length, level_at_opened, opened_levels, opened_below_own, opened_attained, opened_highest, opened_uncrossed, opened_monotone}
 use Rattle.theory.proofs.Idempotent.{opened_idempotent}
 
 module _ (s : Setting) where
@@ -55,71 +55,71 @@ module _ (s : Setting) where
       rw (level_at_turned f p on, turned_size (level_at f p)) (l.size p))
 
   module _ (W H : ℕ) where
-    pub filtered-as-mode : (f : List ℤ) → filtered s W H f ≡ map (as_mode s) (opened s W H (map (as_mode s) f))
+    pub filtered_as_mode : (f : List ℤ) → filtered s W H f ≡ map (as_mode s) (opened s W H (map (as_mode s) f))
     unfolding filtered closed
-    filtered-as-mode f =
+    filtered_as_mode f =
         as-mode (λ e t. rw (e, t) (ap (opened s W H) (sym (map-id f)) ∙ sym (map-id _))) (λ e t. rw (e, t))
 
-    pub filtered-length : (f : List ℤ) → length (filtered s W H f) ≡ W * H
-    filtered-length f =
-        ap length (filtered-as-mode f)
+    pub filtered_length : (f : List ℤ) → length (filtered s W H f) ≡ W * H
+    filtered_length f =
+        ap length (filtered_as_mode f)
         ∙ length-map (opened s W H (map (as_mode s) f)) (as_mode s)
         ∙ opened_length s W H (map (as_mode s) f)
 
     -- turned, the filtered level is the opened level of the turned plate
-    pub turned-filtered : (f : List ℤ) (x : ℕ) → x < W * H → as_mode s (level_at (filtered s W H f) x) ≡ opened_at s W H (map (as_mode s) f) x
-    turned-filtered f x h =
+    pub turned_filtered : (f : List ℤ) (x : ℕ) → x < W * H → as_mode s (level_at (filtered s W H f) x) ≡ opened_at s W H (map (as_mode s) f) x
+    turned_filtered f x h =
         let g = opened s W H (map (as_mode s) f) in
         let on : x < length g = omega (arith, opened_length s W H (map (as_mode s) f)) in
-        let e : level_at (filtered s W H f) x ≡ as_mode s (level_at g x) = rw (filtered-as-mode f) (level_at_turned g x on) in
+        let e : level_at (filtered s W H f) x ≡ as_mode s (level_at g x) = rw (filtered_as_mode f) (level_at_turned g x on) in
         ap (as_mode s) e ∙ turned_turned (level_at g x) ∙ level_at_opened s W H (map (as_mode s) f) x h
 
-    pub levelAt-filtered : (f : List ℤ) (x : ℕ) → x < W * H → level_at (filtered s W H f) x ≡ as_mode s (opened_at s W H (map (as_mode s) f) x)
-    levelAt-filtered f x h = sym (turned_turned (level_at (filtered s W H f) x)) ∙ ap (as_mode s) (turned-filtered f x h)
+    pub level_at_filtered : (f : List ℤ) (x : ℕ) → x < W * H → level_at (filtered s W H f) x ≡ as_mode s (opened_at s W H (map (as_mode s) f) x)
+    level_at_filtered f x h = sym (turned_turned (level_at (filtered s W H f) x)) ∙ ap (as_mode s) (turned_filtered f x h)
 
-    pub filtered-levels : (f : List ℤ) → Levels f → Levels (filtered s W H f)
-    filtered-levels f l =
-        rw (filtered-as-mode f) (turned_levels (opened s W H (map (as_mode s) f)) (opened_levels s W H (map (as_mode s) f) (turned_levels f l)))
+    pub filtered_levels : (f : List ℤ) → Levels f → Levels (filtered s W H f)
+    filtered_levels f l =
+        rw (filtered_as_mode f) (turned_levels (opened s W H (map (as_mode s) f)) (opened_levels s W H (map (as_mode s) f) (turned_levels f l)))
 
     -- ---- of plates with exactly W × H levels
 
     module _ (f : List ℤ) (room : length f ≡ W * H) (l : Levels f) where
-      pub filtered-toward-own : (x : ℕ) → x < W * H → as_mode s (level_at (filtered s W H f) x) ≤ℤ as_mode s (level_at f x)
-      filtered-toward-own x h =
-          rw (turned-filtered f x h, ← level_at_turned f x (omega arith)) (opened_below_own s W H (map (as_mode s) f) (turned_levels f l) x)
+      pub filtered_toward_own : (x : ℕ) → x < W * H → as_mode s (level_at (filtered s W H f) x) ≤ℤ as_mode s (level_at f x)
+      filtered_toward_own x h =
+          rw (turned_filtered f x h, ← level_at_turned f x (omega arith)) (opened_below_own s W H (map (as_mode s) f) (turned_levels f l) x)
 
-      pub filtered-attained :
+      pub filtered_attained :
           (x : ℕ) → x < W * H → T (crossed W H s.directions s.length x) →
           Counts s W H (map (as_mode s) f) x (as_mode s (level_at (filtered s W H f) x))
-      filtered-attained x h c = rw (turned-filtered f x h) (opened_attained s W H (map (as_mode s) f) (turned_levels f l) x c)
+      filtered_attained x h c = rw (turned_filtered f x h) (opened_attained s W H (map (as_mode s) f) (turned_levels f l) x c)
 
-      pub filtered-highest :
+      pub filtered_highest :
           (x : ℕ) → x < W * H → (t : ℤ) → mag t < 32768 → t ≤ℤ as_mode s (level_at f x) → Counts s W H (map (as_mode s) f) x t →
           t ≤ℤ as_mode s (level_at (filtered s W H f) x)
-      filtered-highest x h t st b c =
-          rw (turned-filtered f x h)
+      filtered_highest x h t st b c =
+          rw (turned_filtered f x h)
           (opened_highest s W H (map (as_mode s) f) (turned_levels f l) x t st (rw (level_at_turned f x (omega arith)) b) c)
 
-    pub filtered-uncrossed :
+    pub filtered_uncrossed :
         (f : List ℤ) (x : ℕ) → x < W * H → crossed W H s.directions s.length x ≡ false → level_at (filtered s W H f) x ≡ as_mode s lowest
-    filtered-uncrossed f x h e = levelAt-filtered f x h ∙ ap (as_mode s) (opened_uncrossed s W H (map (as_mode s) f) x e)
+    filtered_uncrossed f x h e = level_at_filtered f x h ∙ ap (as_mode s) (opened_uncrossed s W H (map (as_mode s) f) x e)
 
-    opened-as-mode-monotone :
+    opened_as_mode_monotone :
         (f g : List ℤ) → length f ≡ W * H → length g ≡ W * H → Levels f → Levels g →
         ((p : ℕ) → p < W * H → as_mode s (level_at f p) ≤ℤ as_mode s (level_at g p)) → (x : ℕ) → x < W * H →
         opened_at s W H (map (as_mode s) f) x ≤ℤ opened_at s W H (map (as_mode s) g) x
-    opened-as-mode-monotone f g rf rg lf lg h =
-        opened-monotone s W H (map (as_mode s) f) (map (as_mode s) g) (turned_levels f lf) (turned_levels g lg)
+    opened_as_mode_monotone f g rf rg lf lg h =
+        opened_monotone s W H (map (as_mode s) f) (map (as_mode s) g) (turned_levels f lf) (turned_levels g lg)
         (λ p i. rw (level_at_turned f p (omega arith), level_at_turned g p (omega arith)) (h p i))
 
-    pub filtered-monotone :
+    pub filtered_monotone :
         (f g : List ℤ) → length f ≡ W * H → length g ≡ W * H → Levels f → Levels g →
         ((p : ℕ) → p < W * H → level_at f p ≤ℤ level_at g p) → (x : ℕ) → x < W * H → level_at (filtered s W H f) x ≤ℤ level_at (filtered s W H g) x
-    filtered-monotone f g rf rg lf lg h x i =
-        rw (levelAt-filtered f x i, levelAt-filtered g x i)
+    filtered_monotone f g rf rg lf lg h x i =
+        rw (level_at_filtered f x i, level_at_filtered g x i)
         (⊎_elim
-        (λ e. turned_keeps e (opened-as-mode-monotone f g rf rg lf lg (λ p j. turned_keeps e (h p j)) x i))
-        (λ e. turned_reverses e (opened-as-mode-monotone g f rg rf lg lf (λ p j. turned_reverses e (h p j)) x i))
+        (λ e. turned_keeps e (opened_as_mode_monotone f g rf rg lf lg (λ p j. turned_keeps e (h p j)) x i))
+        (λ e. turned_reverses e (opened_as_mode_monotone g f rg rf lg lf (λ p j. turned_reverses e (h p j)) x i))
         (true_or_false (eqb s.mode 0)))
 
 -- ---- filtering twice
@@ -130,13 +130,13 @@ pub filtered_twice :
     filtered s W H (filtered s' W H f) ≡ map (as_mode s) (opened s W H (opened s' W H (map (as_mode s) f)))
 filtered_twice s s' W H same f =
     let g = opened s' W H (map (as_mode s) f) in
-    let first : filtered s' W H f ≡ map (as_mode s) g = rw same at (filtered-as-mode s' W H f) in
+    let first : filtered s' W H f ≡ map (as_mode s) g = rw same at (filtered_as_mode s' W H f) in
     ap (filtered s W H) first
-    ∙ filtered-as-mode s W H (map (as_mode s) g)
+    ∙ filtered_as_mode s W H (map (as_mode s) g)
     ∙ ap (λ (h : List ℤ). map (as_mode s) (opened s W H h)) (map_undone (as_mode s) (turned_turned s) g)
 
 pub filtered_idempotent : (s : Setting) (W H : ℕ) (f : List ℤ) → Levels f → filtered s W H (filtered s W H f) ≡ filtered s W H f
 filtered_idempotent s W H f l =
     filtered_twice s s W H refl f
     ∙ ap (map (as_mode s)) (opened_idempotent s W H (map (as_mode s) f) (turned_levels s f l))
-    ∙ sym (filtered-as-mode s W H f)
+    ∙ sym (filtered_as_mode s W H f)

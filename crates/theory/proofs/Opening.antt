@@ -22,8 +22,8 @@ use Rattle.plate.specs.declared.setting.Setting.{Setting}
 use Rattle.theory.specs.Modes.{Levels}
 use Rattle.plate.proofs.Keys.{lowest_le}
 use Rattle.theory.proofs.Listed.{places_length, places_at, through_mem, mem_through, listed_on, crossed_find, crossed_keep}
-use Rattle.theory.proofs.Highest.{highest_size, highest_not_above, highest_passes_or_lowest, passing_not_above_highest, highest-is}
-use Rattle.theory.proofs.Admission.{admitted-monotone, admitted_lowest}
+use Rattle.theory.proofs.Highest.{highest_size, highest_not_above, highest_passes_or_lowest, passing_not_above_highest, highest_is}
+use Rattle.theory.proofs.Admission.{admitted_monotone, admitted_lowest}
 
 -- it is enough to look at the plate: past its end the level is the lowest
 pub levels_within : (f : List ℤ) → ((p : ℕ) → p < length f → mag (level_at f p) < 32768) → Levels f
@@ -53,10 +53,10 @@ module _ (s : Setting) (W H : ℕ) where
   pub counts_on : {f : List ℤ} {x : ℕ} {t : ℤ} → (c : Counts s W H f x t) → (p : ℕ) → Memᴰ p c.path → p < W * H
   counts_on c = listed_on W H s.directions s.length c.path c.listed
 
-  pub counts-monotone :
+  pub counts_monotone :
       (f g : List ℤ) → ((p : ℕ) → p < W * H → level_at f p ≤ℤ level_at g p) → {x : ℕ} {t : ℤ} → Counts s W H f x t → Counts s W H g x t
-  counts-monotone f g h {t = t} c =
-      recounted c (admitted-monotone s f g t c.path (λ p i. h p (counts_on c p i)) c.admitted)
+  counts_monotone f g h {t = t} c =
+      recounted c (admitted_monotone s f g t c.path (λ p i. h p (counts_on c p i)) c.admitted)
 
   -- ---- the test of the search
 
@@ -117,24 +117,24 @@ module _ (s : Setting) (W H : ℕ) where
   opened_highest f l x t st h c = passing_not_above_highest _ (level_at f x) t (l.size x) st h (counts_kept f x t c)
 
   -- the same two by keys: n is the key of the opened level
-  pub opened-is :
+  pub opened_is :
       (f : List ℤ) (x n : ℕ) → n ≤ key (level_at f x) → (1 ≤ n → Counts s W H f x (level n)) →
       ((t : ℕ) → 1 ≤ t → t ≤ key (level_at f x) → Counts s W H f x (level t) → t ≤ n) → opened_at s W H f x ≡ level n
   unfolding opened_at
-  opened-is f x n h counts top =
-      highest-is (kept s (paths W H s.directions s.length) f x) (level_at f x) n h (λ positive. counts_kept f x (level n) (counts positive))
+  opened_is f x n h counts top =
+      highest_is (kept s (paths W H s.directions s.length) f x) (level_at f x) n h (λ positive. counts_kept f x (level n) (counts positive))
       (λ t positive low k. top t positive low (kept_counts f x (level t) k))
 
   pub opened_uncrossed : (f : List ℤ) (x : ℕ) → crossed W H s.directions s.length x ≡ false → opened_at s W H f x ≡ lowest
   opened_uncrossed f x e =
       ⊎_elim (λ c. absurd (subst T e (crossed_keep W H s.directions s.length c.listed c.crosses))) (λ i. i) (opened_counts_or_lowest f x)
 
-  pub opened-monotone :
+  pub opened_monotone :
       (f g : List ℤ) → Levels f → Levels g → ((p : ℕ) → p < W * H → level_at f p ≤ℤ level_at g p) →
       (x : ℕ) → x < W * H → opened_at s W H f x ≤ℤ opened_at s W H g x
-  opened-monotone f g lf lg h x hx =
+  opened_monotone f g lf lg h x hx =
       ⊎_elim
-      (λ c. opened_highest g lg x (opened_at s W H f x) (opened_at_size f lf x) (≤ℤ-trans (opened_below_own f lf x) (h x hx)) (counts-monotone f g h c))
+      (λ c. opened_highest g lg x (opened_at s W H f x) (opened_at_size f lf x) (≤ℤ-trans (opened_below_own f lf x) (h x hx)) (counts_monotone f g h c))
       (λ e. rw e (lowest_le (opened_at s W H g x) (opened_at_size g lg x))) (opened_counts_or_lowest f x)
 
 -- two openings with the same level at every pixel are the same plate

@@ -41,21 +41,21 @@ module _ (g : ℕ → ℕ) (t : ℕ) where
   low_first w = ap (low_pixels g t) (walk_starts w)
 
   -- two halves that meet at x count x twice
-  low-joined :
+  low_joined :
       {back : ℕ → List ℕ} {a x : ℕ} {came : List ℕ} (goes : List ℕ) → Walk back a x came →
       low_pixels g t (reverse_aux (tail came) goes) + under t (g x) ≡ low_pixels g t came + low_pixels g t goes
-  low-joined {came = came} goes w = omega (arith, low_reverse_aux (tail came) goes, low_first w)
+  low_joined {came = came} goes w = omega (arith, low_reverse_aux (tail came) goes, low_first w)
 
 module _ (slack : ℕ) (next back : ℕ → List ℕ) (g : ℕ → ℕ) (t : ℕ) where
   module _ (turn : (p q : ℕ) → Memᴰ q (next p) → Memᴰ p (back q)) where
-    cut-halves :
+    cut_halves :
         {m k x p : ℕ} {ps : List ℕ} → t ≤ g x → low_pixels g t ps ≤ k → Walk next m p ps → t ≤ ended slack (g p) → t ≤ ended slack (g (last_of ps)) →
         Cut next back m x ps → Halves slack next back g t m k x
-    cut-halves {m} {k} {x} {p} {ps} h few w starts ends c =
+    cut_halves {m} {k} {x} {p} {ps} h few w starts ends c =
         let i : ℕ = low_pixels g t c.came in
         let e : c.after ≡ m - c.before = omega (arith, c.steps) in
         let n : low_pixels g t ps + under t (g x) ≡ i + low_pixels g t c.goes =
-        ap (λ (qs : List ℕ). low_pixels g t qs + under t (g x)) c.pixels ∙ low-joined g t c.goes c.walk_back in
+        ap (λ (qs : List ℕ). low_pixels g t qs + under t (g x)) c.pixels ∙ low_joined g t c.goes c.walk_back in
         let u : under t (g x) ≡ 0 = under_high t (g x) h in
         let first : p ≡ last_of c.came = joined_starts c.walk_back c.walk_on (rw c.pixels at w) in
         let last : last_of ps ≡ last_of c.goes = ap last_of c.pixels ∙ joined_ends c.walk_back c.walk_on in
@@ -71,7 +71,7 @@ module _ (slack : ℕ) (next back : ℕ → List ℕ) (g : ℕ → ℕ) (t : ℕ
         }
 
     pub split : {m k x : ℕ} → t ≤ g x → Crossing slack next g t m k x → Halves slack next back g t m k x
-    split h c = cut-halves h c.few c.walk c.starts c.ends (cut next back turn c.walk c.crosses)
+    split h c = cut_halves h c.few c.walk c.starts c.ends (cut next back turn c.walk c.crosses)
 
   -- whatever the key of x: counting it twice only asks for more
   module _ (turn_back : (p q : ℕ) → Memᴰ q (back p) → Memᴰ p (next q)) where
@@ -85,7 +85,7 @@ module _ (slack : ℕ) (next back : ℕ → List ℕ) (g : ℕ → ℕ) (t : ℕ
           pixels = reverse_aux (tail a.pixels) b.pixels;
           walk = u.walk;
           crosses = reverse_aux_right (tail a.pixels) (walk_first b.walk);
-          few = omega (arith, low-joined g t b.pixels a.walk, a.few, b.few, c.i≤k);
+          few = omega (arith, low_joined g t b.pixels a.walk, a.few, b.few, c.i≤k);
           starts = rw (joined_starts a.walk b.walk u.walk) a.ends;
           ends = rw (joined_ends a.walk b.walk) b.ends;
         }

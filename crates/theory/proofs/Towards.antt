@@ -15,7 +15,7 @@ use Rattle.basics.proofs.Numbers.{le_or_lt, known_below}
 use Rattle.theory.proofs.Steps.{next_on}
 use Rattle.theory.proofs.Reversal.{turn, turn_back, back_on}
 use Rattle.theory.proofs.LevelSets.{reach_bound, reach_good, good_reach}
-use Rattle.theory.proofs.WalksTo.{from-turned, turned-from}
+use Rattle.theory.proofs.WalksTo.{from_turned, turned_from}
 
 -- the highest key at which a walk of m steps from x to q has at most j pixels below it, whether or not a path may end at q
 abbrev pub towards : Bool → ℕ → ℕ → ℕ → (ℕ → ℕ) → ℕ → ℕ → ℕ → ℕ → ℕ
@@ -42,37 +42,37 @@ around_on false W H bit p q i = next_on W H bit p q i
 
 module _ (slack : ℕ) (b : Bool) (W H bit : ℕ) (g : ℕ → ℕ) (bounded : (p : ℕ) → g p ≤ 65535) (x m j : ℕ) where
   -- the same where a path ends at q
-  abbrev pub endedTowards : ℕ → ℕ
-  endedTowards q = min (towards b W H bit g x m j q) (ended slack (g q))
+  abbrev pub ended_towards : ℕ → ℕ
+  ended_towards q = min (towards b W H bit g x m j q) (ended slack (g q))
 
-  towards_known : (t q : ℕ) → 1 ≤ t → t ≤ endedTowards q → t ≤ best_walk slack (around b W H bit) g m j x
+  towards_known : (t q : ℕ) → 1 ≤ t → t ≤ ended_towards q → t ≤ best_walk slack (around b W H bit) g m j x
   towards_known t q positive h =
-      let r = from-turned 65535 (around b W H bit) (around (opposite b) W H bit) g (λ p. eqb p x) t (turn_opposite b W H bit) positive m j q (omega arith) in
+      let r = from_turned 65535 (around b W H bit) (around (opposite b) W H bit) g (λ p. eqb p x) t (turn_opposite b W H bit) positive m j q (omega arith) in
       let w = r.2 in
       subst (λ (z : ℕ). t ≤ best_walk slack (around b W H bit) g m j z) (eqb-true r.0 x r.1)
       (good_reach slack (around b W H bit) g t m j r.0
       (record { pixels = w.pixels; walk = w.walk; few = w.few; ends = rw w.last (let e : t ≤ ended slack (g q) = omega arith in e) }))
 
   -- no pixel tells more than x
-  pub towards_below : (q : ℕ) → endedTowards q ≤ best_walk slack (around b W H bit) g m j x
-  towards_below q = ⊎_elim (λ l. towards_known (endedTowards q) q l (omega arith)) (λ l. omega arith) (le_or_lt 1 (endedTowards q))
+  pub towards_below : (q : ℕ) → ended_towards q ≤ best_walk slack (around b W H bit) g m j x
+  towards_below q = ⊎_elim (λ l. towards_known (ended_towards q) q l (omega arith)) (λ l. omega arith) (le_or_lt 1 (ended_towards q))
 
   -- and what x tells some pixel does, the last of the walk
-  pub towards-find :
-      slack ≤ 65535 → x < W * H → (t : ℕ) → 1 ≤ t → t ≤ best_walk slack (around b W H bit) g m j x → (q : ℕ) × (q < W * H) × (t ≤ endedTowards q)
-  towards-find small on t positive h =
+  pub towards_find :
+      slack ≤ 65535 → x < W * H → (t : ℕ) → 1 ≤ t → t ≤ best_walk slack (around b W H bit) g m j x → (q : ℕ) × (q < W * H) × (t ≤ ended_towards q)
+  towards_find small on t positive h =
       let low : t ≤ 65535 = omega (arith, reach_bound slack (around b W H bit) g bounded small m j x) in
       let w = reach_good slack (around b W H bit) g t positive m j x h in
       let r =
-      turned-from 65535 (around b W H bit) (around (opposite b) W H bit) g (λ p. eqb p x) t (turn_around b W H bit)
+      turned_from 65535 (around b W H bit) (around (opposite b) W H bit) g (λ p. eqb p x) t (turn_around b W H bit)
       (W * H) (λ p q i. (around_on b W H bit p q i).1) low m j x (eq-eqb x x refl) on w.walk w.few in
       let ends : t ≤ ended slack (g r.0) = rw r.1 w.ends in
       (r.0, r.2, omega (arith, r.3))
 
   -- so the greatest of them is the one of x
-  pub towards-best :
-      slack ≤ 65535 → x < W * H → (n : ℕ) → ((q : ℕ) → q < W * H → endedTowards q ≤ n) →
-      (n ≡ 0) ⊎ ((q : ℕ) × (n ≡ endedTowards q)) → n ≡ best_walk slack (around b W H bit) g m j x
-  towards-best small on n upper least = known_below n (best_walk slack (around b W H bit) g m j x)
+  pub towards_best :
+      slack ≤ 65535 → x < W * H → (n : ℕ) → ((q : ℕ) → q < W * H → ended_towards q ≤ n) →
+      (n ≡ 0) ⊎ ((q : ℕ) × (n ≡ ended_towards q)) → n ≡ best_walk slack (around b W H bit) g m j x
+  towards_best small on n upper least = known_below n (best_walk slack (around b W H bit) g m j x)
       (λ t positive h. ⊎_elim (λ e. absurd (omega arith)) (λ s. omega (arith, s.1, towards_below s.0)) least)
-      (λ t positive h. let r = towards-find small on t positive h in omega (arith, r.2, upper r.0 r.1))
+      (λ t positive h. let r = towards_find small on t positive h in omega (arith, r.2, upper r.0 r.1))

@@ -22,8 +22,8 @@ use Rattle.plate.proofs.Verdicts.{clear_accepted, accepted_clear}
 use Rattle.theory.specs.Trace.{short, better, Few, Shows}
 use Rattle.theory.specs.Modes.{Levels, as_mode}
 use Rattle.theory.proofs.Listed.{through_mem, listed_on, paths_keep}
-use Rattle.theory.proofs.Admission.{ends_on_path, admitted_few, admitted_ends, few-admitted}
-use Rattle.theory.proofs.Mirror.{turned_size, as-mode, level_at_turned, filtered-length, filtered-levels, filtered-highest, filtered_idempotent}
+use Rattle.theory.proofs.Admission.{ends_on_path, admitted_few, admitted_ends, few_admitted}
+use Rattle.theory.proofs.Mirror.{turned_size, as-mode, level_at_turned, filtered_length, filtered_levels, filtered_highest, filtered_idempotent}
 
 -- ---- counts and orders by the mode are those of the turned plate
 
@@ -43,12 +43,12 @@ module _ (s : Setting) where
     ends_turned : short s f t (ends_of path) ≡ below (map (as_mode s) f) (as_mode s t) (ends_of path)
     ends_turned = short_turned f t (ends_of path) (λ p i. on p (ends_on_path path p i))
 
-    few-counts : Few s f t path → T (admits s (map (as_mode s) f) (as_mode s t) path)
-    few-counts few =
-        few-admitted s (map (as_mode s) f) (as_mode s t) path (omega (arith, few.pixels, short_turned f t path on)) (λ one. sym ends_turned ∙ few.ends one)
+    few_counts : Few s f t path → T (admits s (map (as_mode s) f) (as_mode s t) path)
+    few_counts few =
+        few_admitted s (map (as_mode s) f) (as_mode s t) path (omega (arith, few.pixels, short_turned f t path on)) (λ one. sym ends_turned ∙ few.ends one)
 
-    counts-few : T (admits s (map (as_mode s) f) (as_mode s t) path) → Few s f t path
-    counts-few counts =
+    counts_few : T (admits s (map (as_mode s) f) (as_mode s t) path) → Few s f t path
+    counts_few counts =
         record {
           pixels = omega (arith, short_turned f t path on, admitted_few s (map (as_mode s) f) (as_mode s t) path counts);
           ends = λ one. ends_turned ∙ admitted_ends s (map (as_mode s) f) (as_mode s t) path counts one;
@@ -76,7 +76,7 @@ module _ (s : Setting) (W H : ℕ) (f : List ℤ) (x room work : ℕ) (level : �
       let g = filtered s W H f in
       let c = checked.1 in
       let d = c.1.1.1.1.1.1 in
-      let exact : not (eqb (length g) (W * H)) ≡ false = rw (eq-eqb (length g) (W * H) (filtered-length s W H f)) in
+      let exact : not (eqb (length g) (W * H)) ≡ false = rw (eq-eqb (length g) (W * H) (filtered_length s W H f)) in
       let whole : not (eqb s.length s.length) ≡ false = rw (eq-eqb s.length s.length refl) in
       clear_accepted (trace_checks W H s (length g) x s.length room') (level_at (filtered s W H g) x)
       (c.0, (c.1.0, (c.1.1.0, (c.1.1.1.0, (c.1.1.1.1.0, (c.1.1.1.1.1.0, (exact, (whole, (le-ltb _ _ large, d.1.1.1)))))))))
@@ -85,26 +85,26 @@ module _ (s : Setting) (W H : ℕ) (f : List ℤ) (x room work : ℕ) (level : �
   -- ---- demand 3
 
   module _ (l : Levels f) where
-    own-small : (v : ℤ) → mag v < 32768 → mag (as_mode s v) < 32768
-    own-small v h = rw (turned_size s v) h
+    own_small : (v : ℤ) → mag v < 32768 → mag (as_mode s v) < 32768
+    own_small v h = rw (turned_size s v) h
 
     level_small : mag (as_mode s level) < 32768
-    level_small = own-small level (rw traced_level_lem at ((filtered-levels s W H f l).size x))
+    level_small = own_small level (rw traced_level_lem at ((filtered_levels s W H f l).size x))
 
     -- a better level, up to the pixel's own, at which another path counts, would be the filtered level or a worse one
-    nothing-better :
+    nothing_better :
         (t : ℤ) → T (better s t level) → (T (better s t (level_at f x)) → ⊥) → (way : ℕ) → Memᴰ way (chosen s.directions) → (other : List ℕ) →
         Memᴰ other (paths_in W H s.length way) → T (through x other) → Few s f t other → ⊥
-    nothing-better t higher own way chosen-way other is_path crosses few =
+    nothing_better t higher own way chosen-way other is_path crosses few =
         let listed : Memᴰ other (paths W H s.directions s.length) = paths_keep W H s.directions s.length chosen-way is_path in
         let on : (p : ℕ) → Memᴰ p other → p < length f = λ p i. omega (arith, listed_on W H s.directions s.length other listed p i, traced_exact) in
         let within : as_mode s t ≤ℤ as_mode s (level_at f x) = lt_z_no (not_T (lt_z (as_mode s (level_at f x)) (as_mode s t)) (λ u. own (rw (better_turned s t (level_at f x)) u))) in
         let above : as_mode s level <ℤ as_mode s t = lt_z_yes (rw (← better_turned s t level) higher) in
-        let counts : T (admits s (map (as_mode s) f) (as_mode s t) other) = few-counts s f t other on few in
-        let small : mag (as_mode s t) < 32768 = mag_between (lt_le above) within level_small (own-small (level_at f x) (l.size x)) in
+        let counts : T (admits s (map (as_mode s) f) (as_mode s t) other) = few_counts s f t other on few in
+        let small : mag (as_mode s t) < 32768 = mag_between (lt_le above) within level_small (own_small (level_at f x) (l.size x)) in
         clash_ℤ above
         (rw traced_level_lem at
-        (filtered-highest s W H f traced_exact l x traced_on (as_mode s t) small within
+        (filtered_highest s W H f traced_exact l x traced_on (as_mode s t) small within
         (record { path = other; listed = listed; crosses = through_mem x other crosses; admitted = counts })))
 
     -- what the engine has to show is enough
@@ -118,8 +118,8 @@ module _ (s : Setting) (W H : ℕ) (f : List ℤ) (x room work : ℕ) (level : �
           is_path = is_path;
           is_chosen = chosen-way;
           crosses = crosses;
-          few = counts-few s f level path on counts;
-          best = nothing-better;
+          few = counts_few s f level path on counts;
+          best = nothing_better;
           is_filtered = sym traced_level_lem;
           again = traced_again l;
         }

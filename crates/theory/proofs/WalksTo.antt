@@ -82,24 +82,24 @@ module _ (slack : ℕ) (next : ℕ → List ℕ) (g : ℕ → ℕ) (passes : ℕ
       )
 
   -- it is 0 at places among which every step stays, where none of them passes the test
-  pub from-nowhere :
+  pub from_nowhere :
       (Out : ℕ → Type 0) → ((p q : ℕ) → Out p → Memᴰ q (next p) → Out q) → ((p : ℕ) → Out p → passes p ≡ false) →
       (m j p : ℕ) → Out p → best_walk_to slack next g passes m j p ≡ 0
   unfolding best_walk_to fewer
-  from-nowhere Out closed barred zero j p out = rw (barred p out)
-  from-nowhere Out closed barred (suc m) zero p out =
+  from_nowhere Out closed barred zero j p out = rw (barred p out)
+  from_nowhere Out closed barred (suc m) zero p out =
       omega (
         arith,
         best_least (best_walk_to slack next g passes m 0) 0 (next p)
-            (λ q i. omega (arith, from-nowhere Out closed barred m 0 q (closed p q out i))),
+            (λ q i. omega (arith, from_nowhere Out closed barred m 0 q (closed p q out i))),
       )
-  from-nowhere Out closed barred (suc m) (suc j) p out =
+  from_nowhere Out closed barred (suc m) (suc j) p out =
       omega (
         arith,
         best_least (best_walk_to slack next g passes m j) 0 (next p)
-            (λ q i. omega (arith, from-nowhere Out closed barred m j q (closed p q out i))),
+            (λ q i. omega (arith, from_nowhere Out closed barred m j q (closed p q out i))),
         best_least (best_walk_to slack next g passes m (suc j)) 0 (next p)
-            (λ q i. omega (arith, from-nowhere Out closed barred m (suc j) q (closed p q out i))),
+            (λ q i. omega (arith, from_nowhere Out closed barred m (suc j) q (closed p q out i))),
       )
 
   -- one more gap never lowers it, nor do several
@@ -133,15 +133,15 @@ module _ (slack : ℕ) (next : ℕ → List ℕ) (g : ℕ → ℕ) (passes : ℕ
     from_last j p positive h =
         let r = cond_passed (passes p) t (alone slack (g p) j) positive h in (r.0, alone_few slack t (g p) j r.1)
 
-    from-neighbours :
+    from_neighbours :
         (m j p : ℕ) → 1 ≤ t → t ≤ best_walk_to slack next g passes (suc m) j p →
         (under t (g p) ≤ j) × (t ≤ best (best_walk_to slack next g passes m (j - under t (g p))) (next p))
     unfolding fewer
-    from-neighbours m zero p positive h =
+    from_neighbours m zero p positive h =
         let e : under t (g p) ≡ 0 = under_high t (g p) (omega (arith, from_step m zero p)) in
         let d : 0 - under t (g p) ≡ 0 = omega arith in
         (omega arith, rw d (omega (arith, from_step m zero p)))
-    from-neighbours m (suc j) p positive h =
+    from_neighbours m (suc j) p positive h =
         ⊎_elim
         (λ l.
         let e : under t (g p) ≡ 0 = under_high t (g p) l in
@@ -154,11 +154,11 @@ module _ (slack : ℕ) (next : ℕ → List ℕ) (g : ℕ → ℕ) (passes : ℕ
         (omega arith, rw d (omega (arith, from_step m (suc j) p))))
         (le_or_lt t (g p))
 
-    pub from-follow :
+    pub from_follow :
         (m j p : ℕ) → 1 ≤ t → t ≤ best_walk_to slack next g passes (suc m) j p →
         (under t (g p) ≤ j) × (q : ℕ) × Memᴰ q (next p) × (t ≤ best_walk_to slack next g passes m (j - under t (g p)) q)
-    from-follow m j p positive h =
-        let r = from-neighbours m j p positive h in
+    from_follow m j p positive h =
+        let r = from_neighbours m j p positive h in
         let s = best_find (best_walk_to slack next g passes m (j - under t (g p))) t (next p) positive r.1 in
         (r.0, s.0, s.1, s.2)
 
@@ -167,10 +167,10 @@ module _ (slack : ℕ) (next : ℕ → List ℕ) (g : ℕ → ℕ) (passes : ℕ
     unfolding best_walk_to
     from_end j p small e h = rw e (few_alone slack t (g p) j small h)
 
-    pub from-before :
+    pub from_before :
         (m j p q : ℕ) → Memᴰ q (next p) → t ≤ best_walk_to slack next g passes m j q → t ≤ best_walk_to slack next g passes (suc m) (j + under t (g p)) p
     unfolding fewer
-    from-before m j p q i h =
+    from_before m j p q i h =
         let n = best_keep (best_walk_to slack next g passes m j) t q i h in
         ⊎_elim
         (λ (l : t ≤ g p).
@@ -201,30 +201,30 @@ module _ (slack : ℕ) (next back : ℕ → List ℕ) (g : ℕ → ℕ) (passes 
         let c : a ≡ n = omega arith in
         (q, r.0, record { pixels = ps; walk = subst (λ (i : ℕ). Walk next i q ps) c w; few = omega (arith, r.1); last = e })
     turned_on positive (suc m) j q h w e s few =
-        let r = from-follow slack back g passes t m j q positive h in
+        let r = from_follow slack back g passes t m j q positive h in
         turned_on positive m (j - under t (g q)) r.1 r.3 (go (turn_back q r.1 r.2) w) (last_on r.1 w ∙ e) (omega arith) (omega (arith, r.0))
 
-    pub from-turned : 1 ≤ t → (m j q : ℕ) → t ≤ best_walk_to slack back g passes m j q → (z : ℕ) × (passes z ≡ true) × Leading next g t m j z q
+    pub from_turned : 1 ≤ t → (m j q : ℕ) → t ≤ best_walk_to slack back g passes m j q → (z : ℕ) × (passes z ≡ true) × Leading next g t m j z q
     unfolding low_pixels last_of last_after
-    from-turned positive m j q h = turned_on positive m j q h stop refl (omega arith) (omega arith)
+    from_turned positive m j q h = turned_on positive m j q h stop refl (omega arith) (omega arith)
 
   -- from a pixel that passes the test by `next`: back to it from the last pixel, which is on the plate with the first
   module _ (turn : (p q : ℕ) → Memᴰ q (next p) → Memᴰ p (back q)) (size : ℕ) (stays : (p q : ℕ) → Memᴰ q (next p) → q < size) where
-    turned-back :
+    turned_back :
         (a c j n : ℕ) {m p : ℕ} {ps : List ℕ} → Walk next m p ps → t ≤ best_walk_to slack back g passes a c p → m + a ≡ n →
         c + low_pixels g t ps ≤ j + under t (g p) → p < size → (q : ℕ) × (q ≡ last_of ps) × (q < size) × (t ≤ best_walk_to slack back g passes n j q)
     unfolding low_pixels last_of last_after
-    turned-back a c j n (stop {p}) h s few on =
+    turned_back a c j n (stop {p}) h s few on =
         let e : a ≡ n = omega arith in
         (p, refl, on, omega (arith, from_gaps slack back g passes a c j p (omega arith), ap (λ (i : ℕ). best_walk_to slack back g passes i j p) e))
-    turned-back a c j n (go {p = p} {q} i w) h s few on =
+    turned_back a c j n (go {p = p} {q} i w) h s few on =
         let r =
-        turned-back (suc a) (c + under t (g q)) j n w (from-before slack back g passes t a c q p (turn p q i) h) (omega arith) (omega arith) (stays p q i) in
+        turned_back (suc a) (c + under t (g q)) j n w (from_before slack back g passes t a c q p (turn p q i) h) (omega arith) (omega arith) (stays p q i) in
         (r.0, r.1 ∙ sym (last_on p w), r.2, r.3)
 
-    pub turned-from :
+    pub turned_from :
         t ≤ slack → (m j p : ℕ) → passes p ≡ true → p < size → {ps : List ℕ} → Walk next m p ps → low_pixels g t ps ≤ j →
         (q : ℕ) × (q ≡ last_of ps) × (q < size) × (t ≤ best_walk_to slack back g passes m j q)
-    turned-from small m j p e on w few =
+    turned_from small m j p e on w few =
         let h = from_end slack back g passes t (under t (g p)) p small e (omega arith) in
-        turned-back 0 (under t (g p)) j m w h (omega arith) (omega (arith, few)) on
+        turned_back 0 (under t (g p)) j m w h (omega arith) (omega (arith, few)) on

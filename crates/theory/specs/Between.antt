@@ -16,12 +16,12 @@ module _ (s : Setting) (W H : ℕ) (low high : List ℤ) where
   pub record Attained (x : ℕ) (v : ℤ) : Type 0 where
     pub plate : List ℤ
     pub between : LiesBetween W H low high plate
-    pub filters-to : level_at (filtered s W H plate) x ≡ v
+    pub filters_to : level_at (filtered s W H plate) x ≡ v
 
   -- the lowest and the highest filtered plate
   pub record Bounds (lowResult highResult : List ℤ) : Type 0 where
     -- "every true plate between the two .. must filter to something between them"
     pub within : (f : List ℤ) → LiesBetween W H low high f → LiesBetween W H lowResult highResult (filtered s W H f)
     -- "at each pixel each end must be reached by some such plate"
-    pub low-attained : (x : ℕ) → x < W * H → Attained x (level_at lowResult x)
-    pub high-attained : (x : ℕ) → x < W * H → Attained x (level_at highResult x)
+    pub low_attained : (x : ℕ) → x < W * H → Attained x (level_at lowResult x)
+    pub high_attained : (x : ℕ) → x < W * H → Attained x (level_at highResult x)

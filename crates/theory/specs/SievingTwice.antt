@@ -17,11 +17,11 @@ pub record Sieves (s : Setting) (K L : ℕ) : Type 0 where
 
 module _ (s : Setting) (W H : ℕ) where
   -- one filtering by the length L
-  abbrev pub filteredBy : ℕ → List ℤ → List ℤ
-  filteredBy L f = filtered (with_length s L) W H f
+  abbrev pub filtered_by : ℕ → List ℤ → List ℤ
+  filtered_by L f = filtered (with_length s L) W H f
 
   pub record SievedTwice (K L : ℕ) (f : List ℤ) : Type 0 where
     -- "filtering by K and then by L .. equal one filtering by the larger"
-    pub K-then-L : filteredBy L (filteredBy K f) ≡ filteredBy (max K L) f
+    pub K_then_L : filtered_by L (filtered_by K f) ≡ filtered_by (max K L) f
     -- ".. or by L and then by K .."
-    pub L-then-K : filteredBy K (filteredBy L f) ≡ filteredBy (max K L) f
+    pub L_then_K : filtered_by K (filtered_by L f) ≡ filtered_by (max K L) f

@@ -6,7 +6,7 @@ use mathlib.Core.Bool.{Bool, true, false, cond, true≢false}
 use mathlib.Core.List.{List}
 use native.Mathlib.Omega.{arith}
 use lib.IntN.{ℤ}
-use Rattle.theory.proofs.Towards.{towards-find}
+use Rattle.theory.proofs.Towards.{towards_find}
 use Rattle.plans.specs.Plans.{line_at, rows_in, steps_at}
 use Rattle.states.specs.States.{Holds}
 use Rattle.stacks.specs.Stacks.{KeysAre}
@@ -25,7 +25,7 @@ use Rattle.theory.specs.Modes.{Levels}
 use Rattle.walks.proofs.Picking.{picked_same}
 use Rattle.tracing.proofs.Modes.{keys_bounded}
 use Rattle.tracing.proofs.Sighting.{sight_planes, sight_sound, sight_states_few}
-use Rattle.tracing.proofs.SeenLaws.{sideKeys, toPixel, seen-ended, seen_first, seen-row}
+use Rattle.tracing.proofs.SeenLaws.{side_keys, to_pixel, seen_ended, seen_first, seen_row}
 use Rattle.walks.proofs.Endings.{ended_by, ended_held}
 use Rattle.tracing.proofs.Nearing.{place_of}
 
@@ -50,7 +50,7 @@ module _ (s : Scan) (b : Bool) (plate : List ℤ) (x : ℕ) (r : Sight) (sound :
       (leads : Leads s.slack s.width s.height (bit_of s) b (key_of s plate) t s.spare n j x) where
     -- the keys of the side
     abbrev keys : ℕ → ℕ
-    keys = sideKeys s sound b x r view plate levels
+    keys = side_keys s sound b x r view plate levels
 
     -- there is one
     pub record End : Type 0 where
@@ -62,21 +62,21 @@ module _ (s : Scan) (b : Bool) (plate : List ℤ) (x : ℕ) (r : Sight) (sound :
       pub tells : Tells (ended_by s.slack r.plan keys (seen_at s b plate x r)) r.plan j t state row pixel
 
     -- a pixel where a walk that counts may end has a row that tells so
-    row-tells :
-        (q i z : ℕ) → place_in r.frame i z ≡ q → (c : HasRow r.frame r.plan r.states n i z) → t ≤ toPixel s sound b x r view plate levels n j q →
+    row_tells :
+        (q i z : ℕ) → place_in r.frame i z ≡ q → (c : HasRow r.frame r.plan r.states n i z) → t ≤ to_pixel s sound b x r view plate levels n j q →
         Tells (ended_by s.slack r.plan keys (seen_at s b plate x r)) r.plan j t c.state c.row z
-    row-tells q i z is c h =
-        let told = seen-ended s sound b x r view plate levels c.state c.row j z c.row_below c.low c.high in
-        let here : t ≤ toPixel s sound b x r view plate levels (steps_at r.plan c.state c.row) j
+    row_tells q i z is c h =
+        let told = seen_ended s sound b x r view plate levels c.state c.row j z c.row_below c.low c.high in
+        let here : t ≤ to_pixel s sound b x r view plate levels (steps_at r.plan c.state c.row) j
         (pixel_in r.frame r.plan.ranked (line_at r.plan c.state c.row) z) = rw (c.steps, c.place, is) h in
         record { row = c.row_below; low = c.low; high = c.high; counts = omega (arith, told, here) }
 
     pub some_end : End
     some_end =
         let q =
-        towards-find s.slack b s.width s.height (bit_of s) (key_of s plate) (keys_bounded s plate levels) x n j sound.few_slack leads.on t
+        towards_find s.slack b s.width s.height (bit_of s) (key_of s plate) (keys_bounded s plate levels) x n j sound.few_slack leads.on t
         positive leads.counts in
-        let h = seen-row s sound b x r view (key_of s plate) n j q.0 short q.1 (omega (arith, q.2)) in
+        let h = seen_row s sound b x r view (key_of s plate) n j q.0 short q.1 (omega (arith, q.2)) in
         let c = h.3 in
         record {
           state = c.state;
@@ -84,11 +84,11 @@ module _ (s : Scan) (b : Bool) (plate : List ℤ) (x : ℕ) (r : Sight) (sound :
           pixel = h.1;
           below = c.state_below;
           steps = (c.steps, λ k. seen_first s sound b x r view c.state c.state_below k);
-          tells = row-tells q.0 h.0 h.1 h.2 c q.2;
+          tells = row_tells q.0 h.0 h.1 h.2 c q.2;
         }
 
-    pub end-few : cond r.plan.ranked (n + 1) 1 ≤ r.states
-    end-few = wanted_few r.plan.ranked n some_end.state some_end.row some_end.below some_end.steps.0
+    pub end_few : cond r.plan.ranked (n + 1) 1 ≤ r.states
+    end_few = wanted_few r.plan.ranked n some_end.state some_end.row some_end.below some_end.steps.0
 
     pub end_row : r.plan.ranked ≡ false → n < rows_in r.plan 0
     end_row k =
@@ -102,33 +102,33 @@ module _ (s : Scan) (b : Bool) (plate : List ℤ) (x : ℕ) (r : Sight) (sound :
         (held : Holds work top r.plan (want - 1) (seen_at s b plate x r (want - 1))) (kept : KeysAre work r.plan keys)
         (picked : Picked (OfSteps r.plan n) (ended_in work s.slack top r.plan) r.plan j t end) where
       -- by the numbers of the side instead of those of the buffer
-      end-picked : Picked (OfSteps r.plan n) (ended_by s.slack r.plan keys (seen_at s b plate x r)) r.plan j t end
-      end-picked =
+      end_picked : Picked (OfSteps r.plan n) (ended_by s.slack r.plan keys (seen_at s b plate x r)) r.plan j t end
+      end_picked =
           picked_same (OfSteps r.plan n) (ended_in work s.slack top r.plan) (ended_by s.slack r.plan keys (seen_at s b plate x r)) r.plan j t end
           (λ e m z row low high a.
           let e= : e ≡ want - 1 = wanted_at r.plan.ranked n e m a.1 a.0 ∙ ap (λ (k : ℕ). k - 1) (sym is-want) in
           ended_held r.plan (sight_sound s sound b x r view) s.slack top e work keys (seen_at s b plate x r)
-          (omega (arith, e=, is-want, end-few, sight_states_few s sound b x r view)) (rw e= held) kept m j z row
+          (omega (arith, e=, is-want, end_few, sight_states_few s sound b x r view)) (rw e= held) kept m j z row
           (omega (arith, sight_planes s sound b x r view)) low high)
           picked
 
-      end-told : OfSteps r.plan n end.state end.row end.pixel
+      end_told : OfSteps r.plan n end.state end.row end.pixel
           × Tells (ended_by s.slack r.plan keys (seen_at s b plate x r)) r.plan j t end.state end.row end.pixel
-      end-told = let c = some_end in end-picked.fits (end-picked.found c.state c.row c.pixel c.steps c.tells)
+      end_told = let c = some_end in end_picked.fits (end_picked.found c.state c.row c.pixel c.steps c.tells)
 
-      pub end-stands : Stands s b plate x r t n end
-      end-stands =
-          let f = end-told in
+      pub end_stands : Stands s b plate x r t n end
+      end_stands =
+          let f = end_told in
           let e= : end.state ≡ cond r.plan.ranked (n + 1) 1 - 1 = wanted_at r.plan.ranked n end.state end.row f.0.1 f.0.0 in
           record {
-            state = omega (arith, e=, end-few, wanted_some r.plan.ranked n);
+            state = omega (arith, e=, end_few, wanted_some r.plan.ranked n);
             steps = f.0.0;
-            gaps = omega (arith, end-picked.is_gaps);
+            gaps = omega (arith, end_picked.is_gaps);
             tells =
-                rw end-picked.is_gaps
+                rw end_picked.is_gaps
                 (record { row = f.1.row; low = f.1.low; high = f.1.high; counts = omega (arith, f.1.counts) });
           }
 
       -- and a path may end there
-      pub end-ends : EndsAt s plate t (place_of r end)
-      end-ends = omega (arith, end-told.1.counts)
+      pub end_ends : EndsAt s plate t (place_of r end)
+      end_ends = omega (arith, end_told.1.counts)

@@ -40,22 +40,22 @@ module _ (r : Scan) (W H : ℕ) (s : Setting) (index : ℕ) (sound : Sound r) (o
       let e : span W H (2 ^ index) ≡ r.steps + r.spare + 1 = rw (of.is_width, of.is_height, of.is_index) at sound.long in
       omega (arith, of.is_steps)
 
-  pub scan-found :
+  pub scan_found :
       (f : List ℤ) (x : ℕ) (old new : Found) → FoundIn r.slack r.width r.height r.steps r.setting.gaps r.spare (key_of r f) x r.index old new →
       FoundAt W H s f x index old new
-  scan-found f x old new d =
+  scan_found f x old new d =
       rw (scan_keys f, scan_spare, of.is_width, of.is_height, of.is_steps, of.is_slack, of.is_setting, of.is_index) at d
 
-  pub scan-attained :
+  pub scan_attained :
       (f : List ℤ) (x t before gaps : ℕ) → Attained (gap_end s.ends) W H (s.length - 1) s.gaps (span W H (2 ^ index) - s.length) (keys_by s.mode f) x (2 ^ index) t before gaps →
       Attained r.slack r.width r.height r.steps r.setting.gaps r.spare (key_of r f) x (bit_of r) t before gaps
-  scan-attained f x t before gaps a =
+  scan_attained f x t before gaps a =
       rw (scan_keys f, scan_spare, of.is_width, of.is_height, of.is_steps, of.is_slack, of.is_setting, of.is_index) a
 
-  pub scan-drawn :
+  pub scan_drawn :
       (f : List ℤ) (x t : ℕ) (path : List ℕ) → Drawn r.slack r.width r.height (bit_of r) (key_of r f) t r.steps r.setting.gaps x path →
       Drawn (gap_end s.ends) W H (2 ^ index) (keys_by s.mode f) t (s.length - 1) s.gaps x path
-  scan-drawn f x t path d = rw (scan_keys f, of.is_width, of.is_height, of.is_steps, of.is_slack, of.is_setting, of.is_index) at d
+  scan_drawn f x t path d = rw (scan_keys f, of.is_width, of.is_height, of.is_steps, of.is_slack, of.is_setting, of.is_index) at d
 
 -- ---- one direction after the other
 

@@ -99,11 +99,11 @@ module _ (slack W H bit : ℕ) (b : Bool) (g : ℕ → ℕ) (t : ℕ) (old : Lis
 
   module _ (within : Within b (length old) start m) where
     -- the pixel that comes next is written, and another one comes next, of which it is a neighbour
-    pub inward-nearer :
+    pub inward_nearer :
         (path : List ℕ) (n here left here' left' : ℕ) → suc n ≤ m → Inward path (suc n) here left →
         Memᴰ here (around b W H bit here') → left' + under t (g here) ≤ left →
         Inward (set path (index_after b start (suc n)) here) n here' left'
-    inward-nearer path n here left here' left' h d near spent =
+    inward_nearer path n here left here' left' h d near spent =
         let i0 : ℕ = index_after b start (suc n) in
         let inside = index_within b (length old) start (suc n) (within_less b (length old) start m (suc n) within h) in
         let written : get_or (set path i0 here) i0 0 ≡ here = get_or-set_same path i0 here 0 (omega (arith, d.len, inside)) in
@@ -143,32 +143,32 @@ module _ (slack W H bit : ℕ) (b : Bool) (g : ℕ → ℕ) (t : ℕ) (old : Lis
 
     -- the picked pixel comes next
     module _ (path : List ℕ) (here left : ℕ) (d : Inward path 0 here left) (picked : here ≡ get_or old start 0) where
-      first-kept : get_or path (index_after b start 0) 0 ≡ here
-      first-kept = ap (λ (i : ℕ). get_or path i 0) (index_first b start) ∙ d.kept start (behind-start b start) ∙ sym picked
+      first_kept : get_or path (index_after b start 0) 0 ≡ here
+      first_kept = ap (λ (i : ℕ). get_or path i 0) (index_first b start) ∙ d.kept start (behind_start b start) ∙ sym picked
         where
-          behind-start : (b : Bool) (start : ℕ) → Behind b start start
-          behind-start true start = omega arith
-          behind-start false start = omega arith
+          behind_start : (b : Bool) (start : ℕ) → Behind b start start
+          behind_start true start = omega arith
+          behind_start false start = omega arith
 
-      pub inward-trail : Trail W H bit b old path start m
-      inward-trail =
+      pub inward_trail : Trail W H bit b old path start m
+      inward_trail =
           record {
             step = λ i l.
-                ⊎_elim (λ a. let e : i ≡ 0 = omega arith in rw (e, first-kept) (d.next (omega arith))) (λ a. d.step i a l) (le_or_lt i 0);
+                ⊎_elim (λ a. let e : i ≡ 0 = omega arith in rw (e, first_kept) (d.next (omega arith))) (λ a. d.step i a l) (le_or_lt i 0);
             kept = d.kept;
             len = d.len;
           }
 
-      pub inward-end : t ≤ ended slack (g (get_or path (index_after b start m) 0))
-      inward-end =
+      pub inward_end : t ≤ ended slack (g (get_or path (index_after b start m) 0))
+      inward_end =
           ⊎_elim (λ a. d.far a)
           (λ a. let e : 0 ≡ m = omega arith in
-          subst (λ (k : ℕ). t ≤ ended slack (g (get_or path (index_after b start k) 0))) e (rw first-kept (d.first e)))
+          subst (λ (k : ℕ). t ≤ ended slack (g (get_or path (index_after b start k) 0))) e (rw first_kept (d.first e)))
           (le_or_lt 1 m)
 
-      pub inward-few : under t (g here) ≤ left → low_along b g t path start (m + 1) ≤ gaps
-      inward-few h =
-          let there : get_or path start 0 ≡ here = sym (ap (λ (i : ℕ). get_or path i 0) (index_first b start)) ∙ first-kept in
+      pub inward_few : under t (g here) ≤ left → low_along b g t path start (m + 1) ≤ gaps
+      inward_few h =
+          let there : get_or path start 0 ≡ here = sym (ap (λ (i : ℕ). get_or path i 0) (index_first b start)) ∙ first_kept in
           omega (arith, d.few, beyond_all b g t path (length old) start m within, ap (λ (q : ℕ). under t (g q)) there)
 
 -- ---- at the lowest key no pixel is low

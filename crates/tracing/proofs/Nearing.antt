@@ -25,8 +25,8 @@ use Rattle.theory.specs.BestWalks.{under, best_walk_to}
 use Rattle.theory.specs.Modes.{Levels}
 use Rattle.theory.specs.Walks.{around, opposite}
 use Rattle.tracing.proofs.Sources.{Source, to_tap, source, later_row}
-use Rattle.tracing.proofs.Sighting.{sight_planes, sight_across, sight_sound, sight_states_few, sight-sequence}
-use Rattle.tracing.proofs.SeenLaws.{seen-pixels, seen_first, seen-more-gaps, seen-tap-0, seen-tap-1, seen-tap-2}
+use Rattle.tracing.proofs.Sighting.{sight_planes, sight_across, sight_sound, sight_states_few, sight_sequence}
+use Rattle.tracing.proofs.SeenLaws.{seen_pixels, seen_first, seen_more_gaps, seen_tap_0, seen_tap_1, seen_tap_2}
 
 -- the place of a stand
 abbrev pub place_of : Sight → Stand → ℕ
@@ -54,7 +54,7 @@ module _ (s : Scan) (b : Bool) (plate : List ℤ) (x : ℕ) (r : Sight) (sound :
   stand_pixel =
       omega (
         arith,
-        (seen-pixels s sound b x r view stand.state stand.row stand.pixel d.tells.row d.tells.low d.tells.high).column,
+        (seen_pixels s sound b x r view stand.state stand.row stand.pixel d.tells.row d.tells.low d.tells.high).column,
         sight_across s sound b x r view,
       )
 
@@ -63,14 +63,14 @@ module _ (s : Scan) (b : Bool) (plate : List ℤ) (x : ℕ) (r : Sight) (sound :
 
   -- its place
   place_is : place_of r stand ≡ pixel_in r.frame r.plan.ranked (line_at r.plan stand.state stand.row) stand.pixel
-  place_is = (seen-pixels s sound b x r view stand.state stand.row stand.pixel d.tells.row d.tells.low d.tells.high).key_place
+  place_is = (seen_pixels s sound b x r view stand.state stand.row stand.pixel d.tells.row d.tells.low d.tells.high).key_place
 
   pub stand_on : place_of r stand < W * H
   stand_on =
       omega (
         arith,
         place_is,
-        (seen-pixels s sound b x r view stand.state stand.row stand.pixel d.tells.row d.tells.low d.tells.high).on_plate,
+        (seen_pixels s sound b x r view stand.state stand.row stand.pixel d.tells.row d.tells.low d.tells.high).on_plate,
       )
 
   -- with no steps left it is the picked one
@@ -90,12 +90,12 @@ module _ (s : Scan) (b : Bool) (plate : List ℤ) (x : ℕ) (r : Sight) (sound :
   led j e m z row low high step =
       let c = r.plan.reach in
       ⊎_elim
-      (λ k. seen-tap-0 s sound b x r view stand.state stand.row stand.pixel e m z
+      (λ k. seen_tap_0 s sound b x r view stand.state stand.row stand.pixel e m z
       (to_tap r.plan (with_gaps stand j) c.y0 c.x0 e m z d.tells.row d.tells.low d.tells.high row low high k))
       (λ k. ⊎_elim
-      (λ k. seen-tap-1 s sound b x r view stand.state stand.row stand.pixel e m z
+      (λ k. seen_tap_1 s sound b x r view stand.state stand.row stand.pixel e m z
       (to_tap r.plan (with_gaps stand j) c.y1 c.x1 e m z d.tells.row d.tells.low d.tells.high row low high k))
-      (λ k. seen-tap-2 s sound b x r view stand.state stand.row stand.pixel e m z
+      (λ k. seen_tap_2 s sound b x r view stand.state stand.row stand.pixel e m z
       (to_tap r.plan (with_gaps stand j) c.y2 c.x2 e m z d.tells.row d.tells.low d.tells.high row low high k))
       k)
       step
@@ -119,14 +119,14 @@ module _ (s : Scan) (b : Bool) (plate : List ℤ) (x : ℕ) (r : Sight) (sound :
         let at : (j : ℕ) → (under t (key_of s plate (place_of r stand)) ≤ stand.gaps)
         × Source r.plan (seen_at s b plate x r) (with_gaps stand j) t (stand.gaps - under t (key_of s plate (place_of r stand))) =
         λ j. source r.plan (sight_sound s sound b x r view) (seen_at s b plate x r) t positive (with_gaps stand j) stand_small d.tells.row
-        d.tells.low d.tells.high (seen-more-gaps s sound b x r view plate levels)
+        d.tells.low d.tells.high (seen_more_gaps s sound b x r view plate levels)
         (λ q. key_of s plate (place_kept r.frame r.plan.ranked q)) stand.gaps
-        ((sight-sequence s sound b x r view plate).grown stand.state d.state) stand_few
+        ((sight_sequence s sound b x r view plate).grown stand.state d.state) stand_few
         (later_row r.plan stand.state stand.row k (d.steps ∙ is-n)) d.tells.counts in
         ((at 0).0, λ j. (at j).1)
 
-    pub gap-left : under t (key_of s plate (place_of r stand)) ≤ stand.gaps
-    gap-left = sources.0
+    pub gap_left : under t (key_of s plate (place_of r stand)) ≤ stand.gaps
+    gap_left = sources.0
 
     -- what is picked among the pixels to which a step leads
     module _ (left : ℕ) (is-left : left ≡ stand.gaps - under t (key_of s plate (place_of r stand))) (to : Stand)
@@ -146,8 +146,8 @@ module _ (s : Scan) (b : Bool) (plate : List ℤ) (x : ℕ) (r : Sight) (sound :
       earlier =
           ⊎_elim (λ o. omega (arith, o.state)) (λ o. ⊎_elim (λ o. omega (arith, o.state)) (λ o. omega (arith, o.state)) o) fits.0
 
-      pub nearer-stands : Stands s b plate x r t k to
-      nearer-stands =
+      pub nearer_stands : Stands s b plate x r t k to
+      nearer_stands =
           record {
             state = omega (arith, earlier, d.state);
             steps = omega (arith, there.fewer, d.steps);
@@ -156,7 +156,7 @@ module _ (s : Scan) (b : Bool) (plate : List ℤ) (x : ℕ) (r : Sight) (sound :
           }
 
       -- and the pixel that is left is a neighbour of the one that is come to
-      pub nearer-place : Memᴰ (place_of r stand) (around b W H (bit_of s) (place_of r to))
-      nearer-place =
-          let on = (seen-pixels s sound b x r view to.state to.row to.pixel fits.1.row fits.1.low fits.1.high).key_place in
+      pub nearer_place : Memᴰ (place_of r stand) (around b W H (bit_of s) (place_of r to))
+      nearer_place =
+          let on = (seen_pixels s sound b x r view to.state to.row to.pixel fits.1.row fits.1.low fits.1.high).key_place in
           rw (place_is, on) (turn_opposite b W H (bit_of s) _ _ there.next)

@@ -61,9 +61,9 @@ module _ (slack W H m k spare : ℕ) (g : ℕ → ℕ) (x index : ℕ) (listed :
         let f = goes.is (m - l) (k - i) (omega arith) (omega arith) in
         rw (is_steps, is_gaps, is-own, add_assoc n.ends (l * (k + 1)) i, add_assoc n.goes ((m - l) * (k + 1)) (k - i), e, f)
 
-    found-attained : (new : Found) → FromNotes (term_at work n own) m k spare place index new → Attained slack W H m k spare g x bit new.key new.before new.gaps
+    found_attained : (new : Found) → FromNotes (term_at work n own) m k spare place index new → Attained slack W H m k spare g x bit new.key new.before new.gaps
     unfolding around
-    found-attained new f =
+    found_attained new f =
         let p = f.possible in
         let e = term_is new.before new.gaps p f.few in
         let b = f.below in
@@ -80,10 +80,10 @@ module _ (slack W H m k spare : ℕ) (g : ℕ → ℕ) (x index : ℕ) (listed :
           };
         }
 
-    none-better :
+    none_better :
         (old new : Found) → Searched (term_at work n own) m k spare place index (m + 1) old new → (l i : ℕ) → l ≤ m → i ≤ k →
         min (g x) (term slack W H bit m k g x l i) ≤ new.key
-    none-better old new d l i u v =
+    none_better old new d l i u v =
         ⊎_elim
         (λ a. ⊎_elim
         (λ b. let p : Possible m spare place l = record { of_path = u; behind = a; ahead = b } in
@@ -93,12 +93,12 @@ module _ (slack W H m k spare : ℕ) (g : ℕ → ℕ) (x index : ℕ) (listed :
         (λ a. omega (arith, term_none l i u (λ p. omega (arith, p.behind))))
         (le_or_lt l place)
 
-    pub searched-found : (old new : Found) → Searched (term_at work n own) m k spare place index (m + 1) old new → FoundIn slack W H m k spare g x index old new
-    searched-found old new d =
+    pub searched_found : (old new : Found) → Searched (term_at work n own) m k spare place index (m + 1) old new → FoundIn slack W H m k spare g x index old new
+    searched_found old new d =
         record {
           not_below = d.not_below;
-          source = ⊎_elim inl (λ f. inr (f.is_index, found-attained new f)) d.source;
-          best = none-better old new d;
+          source = ⊎_elim inl (λ f. inr (f.is_index, found_attained new f)) d.source;
+          best = none_better old new d;
         }
 
   -- a path that counts at the lowest key: there is one wherever it has room

@@ -47,28 +47,28 @@ module _ (W H : ℕ) (s : Setting) (plate x room work : ℕ) where
   refused_call {n} {p} e = sym (refused_first tt tt eight (place ∷ crossing ∷ []) n p (sym e))
 
   module _ (accepts : accepted tt ≡ call_verdict W H s lent) where
-    clear-eight : Clear eight
-    clear-eight = call_clear W H s lent accepts
+    clear_eight : Clear eight
+    clear_eight = call_clear W H s lent accepts
 
-    pub passed-eight : Passed W H s plate s.length room work
-    passed-eight = passed W H s plate s.length room work clear-eight
+    pub passed_eight : Passed W H s plate s.length room work
+    passed_eight = passed W H s plate s.length room work clear_eight
 
-    pub refused-place : W * H ≤ x → refused refusal_place 0 ≡ verdict
-    refused-place l = refused_next tt eight place (crossing ∷ []) clear-eight (le-leb (W * H) x l)
+    pub refused_place : W * H ≤ x → refused refusal_place 0 ≡ verdict
+    refused_place l = refused_next tt eight place (crossing ∷ []) clear_eight (le-leb (W * H) x l)
 
     module _ (on : x < W * H) (first : ℕ) (usable : FirstUsable W H s first) where
-      clear-nine : Clear (eight ++ (place ∷ []))
-      clear-nine = clear_both eight (place ∷ []) clear-eight (lt-leb (W * H) x on, tt)
+      clear_nine : Clear (eight ++ (place ∷ []))
+      clear_nine = clear_both eight (place ∷ []) clear_eight (lt-leb (W * H) x on, tt)
 
-      pub refused-no-path : 4 ≤ first → refused refusal_no_path 0 ≡ verdict
-      refused-no-path l =
-          let e : not (crossed W H s.directions s.length x) ≡ true = rw (none_crosses W H s x passed-eight.size on passed-eight.long first usable l) in
-          refused_next tt (eight ++ (place ∷ [])) crossing [] clear-nine e
+      pub refused_no_path : 4 ≤ first → refused refusal_no_path 0 ≡ verdict
+      refused_no_path l =
+          let e : not (crossed W H s.directions s.length x) ≡ true = rw (none_crosses W H s x passed_eight.size on passed_eight.long first usable l) in
+          refused_next tt (eight ++ (place ∷ [])) crossing [] clear_nine e
 
       pub all_passed : first < 4 → accepted tt ≡ verdict
       all_passed l =
-          let e : not (crossed W H s.directions s.length x) ≡ false = rw (usable_crosses W H s x passed-eight.size on passed-eight.long first usable l) in
-          sym (clear_accepted (trace_checks W H s plate x room work) tt (clear_both (eight ++ (place ∷ [])) (crossing ∷ []) clear-nine (e, tt)))
+          let e : not (crossed W H s.directions s.length x) ≡ false = rw (usable_crosses W H s x passed_eight.size on passed_eight.long first usable l) in
+          sym (clear_accepted (trace_checks W H s plate x room work) tt (clear_both (eight ++ (place ∷ [])) (crossing ∷ []) clear_nine (e, tt)))
 
   -- ---- a trace that they let pass
 
@@ -80,8 +80,8 @@ module _ (W H : ℕ) (s : Setting) (plate x room work : ℕ) where
     passed_first = passed W H s plate s.length room work (clear_first eight (place ∷ crossing ∷ []) clear)
 
     -- has a direction in which it can look
-    pub has-direction : (first : ℕ) → FirstUsable W H s first → first < 4
-    has-direction first usable =
+    pub has_direction : (first : ℕ) → FirstUsable W H s first → first < 4
+    has_direction first usable =
         let last = clear_second eight (place ∷ crossing ∷ []) clear in
         let on : x < W * H = leb-false (W * H) x last.0 in
         ⊎_elim
@@ -91,13 +91,13 @@ module _ (W H : ℕ) (s : Setting) (plate x room work : ℕ) where
 -- ---- what the trace answers
 
 module _ (W H : ℕ) (s : Setting) (f : List ℤ) (x room work : ℕ) where
-  abbrev filteredLevel : ℤ
-  filteredLevel = level_at (filtered s W H f) x
+  abbrev filtered_level : ℤ
+  filtered_level = level_at (filtered s W H f) x
 
   pub trace_refused : {n p : ℕ} → refused n p ≡ verdict W H s (length f) x room work → refused n p ≡ trace_verdict W H s f x room work
   unfolding trace_verdict
-  trace_refused {n} {p} e = sym (refused_same tt filteredLevel (trace_checks W H s (length f) x room work) n p (sym e))
+  trace_refused {n} {p} e = sym (refused_same tt filtered_level (trace_checks W H s (length f) x room work) n p (sym e))
 
-  pub trace_accepted : Clear (trace_checks W H s (length f) x room work) → accepted filteredLevel ≡ trace_verdict W H s f x room work
+  pub trace_accepted : Clear (trace_checks W H s (length f) x room work) → accepted filtered_level ≡ trace_verdict W H s f x room work
   unfolding trace_verdict
-  trace_accepted clear = sym (clear_accepted (trace_checks W H s (length f) x room work) filteredLevel clear)
+  trace_accepted clear = sym (clear_accepted (trace_checks W H s (length f) x room work) filtered_level clear)

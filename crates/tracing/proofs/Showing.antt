@@ -27,8 +27,8 @@ use Rattle.theory.proofs.Ranks.{bit_listed}
 use Rattle.theory.proofs.Span.{chosen_bits}
 use Rattle.theory.proofs.LevelSets.{reach_none, low_pixels_same}
 use Rattle.theory.proofs.Sides.{side}
-use Rattle.theory.proofs.Mirror.{turned_turned, turned_levels, levelAt-filtered}
-use Rattle.theory.proofs.Decomposition.{opened-value, walk-admitted}
+use Rattle.theory.proofs.Mirror.{turned_turned, turned_levels, level_at_filtered}
+use Rattle.theory.proofs.Decomposition.{opened_value, walk_admitted}
 use Rattle.theory.proofs.Walks.{walk_first, walk_last}
 use Rattle.theory.proofs.Terms.{value_term, value_least, value_same}
 use Rattle.theory.proofs.Trace.{shows}
@@ -125,43 +125,43 @@ module _ (W H : ℕ) (s : Setting) (f : List ℤ) (x : ℕ) (size : GoodSize W H
       )
 
   module _ (exact : length f ≡ W * H) (levels : Levels f) where
-    abbrev turnedPlate : List ℤ
-    turnedPlate = map (as_mode s) f
+    abbrev turned_plate : List ℤ
+    turned_plate = map (as_mode s) f
 
-    same_keys : (p : ℕ) → p < W * H → key_at turnedPlate p ≡ g p
+    same_keys : (p : ℕ) → p < W * H → key_at turned_plate p ≡ g p
     unfolding keys_by
     same_keys p h = sym (keys_turned s f levels p (omega arith))
 
-    pub level-found : level_at (filtered s W H f) x ≡ as_mode s (level r.key)
-    level-found =
-        levelAt-filtered s W H f x on
+    pub level_found : level_at (filtered s W H f) x ≡ as_mode s (level r.key)
+    level_found =
+        level_at_filtered s W H f x on
         ∙ ap (as_mode s)
-        (opened-value turnedPlate (turned_levels s f levels).size s W H m x on (let e : s.length ≡ suc m = omega arith in e)
-        ∙ ap level (value_same slack W H (chosen s.directions) m s.gaps x on (key_at turnedPlate) g same_keys ∙ value_found))
+        (opened_value turned_plate (turned_levels s f levels).size s W H m x on (let e : s.length ≡ suc m = omega arith in e)
+        ∙ ap level (value_same slack W H (chosen s.directions) m s.gaps x on (key_at turned_plate) g same_keys ∙ value_found))
 
     -- ---- and the path drawn is one of those that it counts for
 
     module _ (path : List ℕ) (d : Drawn slack W H (2 ^ r.index) g r.key m s.gaps x path) where
-      start-on : get_or path 0 0 < W * H
-      start-on = walk_started W H (2 ^ r.index) d.walk d.crosses on
+      start_on : get_or path 0 0 < W * H
+      start_on = walk_started W H (2 ^ r.index) d.walk d.crosses on
 
-      path-keys : (p : ℕ) → Memᴰ p path → key_at turnedPlate p ≡ g p
-      path-keys p i = same_keys p (walk_stays W H (2 ^ r.index) d.walk start-on i)
+      path_keys : (p : ℕ) → Memᴰ p path → key_at turned_plate p ≡ g p
+      path_keys p i = same_keys p (walk_stays W H (2 ^ r.index) d.walk start_on i)
 
-      counted : T (admits s turnedPlate (level r.key) path)
+      counted : T (admits s turned_plate (level r.key) path)
       counted =
-          walk-admitted turnedPlate (turned_levels s f levels).size s W H m x r.key d.walk
-          (omega (arith, d.few, low_pixels_same (key_at turnedPlate) g r.key path path-keys))
-          (rw (path-keys (get_or path 0 0) (walk_first d.walk)) d.starts)
-          (rw (path-keys (last_of path) (walk_last d.walk)) d.ends)
+          walk_admitted turned_plate (turned_levels s f levels).size s W H m x r.key d.walk
+          (omega (arith, d.few, low_pixels_same (key_at turned_plate) g r.key path path_keys))
+          (rw (path_keys (get_or path 0 0) (walk_first d.walk)) d.starts)
+          (rw (path_keys (last_of path) (walk_last d.walk)) d.ends)
 
-      pub path-shown : (room work : ℕ) → Clear (trace_checks W H s (length f) x room work) → Shows s W H f x (2 ^ r.index) (as_mode s (level r.key)) path
+      pub path_shown : (room work : ℕ) → Clear (trace_checks W H s (length f) x room work) → Shows s W H f x (2 ^ r.index) (as_mode s (level r.key)) path
       unfolding trace_verdict
-      path-shown room work clear =
-          let accepts = clear_accepted (trace_checks W H s (length f) x room work) (level_at (filtered s W H f) x) clear ∙ ap accepted level-found in
+      path_shown room work clear =
+          let accepts = clear_accepted (trace_checks W H s (length f) x room work) (level_at (filtered s W H f) x) clear ∙ ap accepted level_found in
           let e : suc m ≡ s.length = omega arith in
           shows s W H f x room work (as_mode s (level r.key)) accepts levels (2 ^ r.index) path
           (usable_chosen W H s r.index best.listed best.is_usable)
-          (rw e at (walk_listed W H (2 ^ r.index) start-on d.walk))
+          (rw e at (walk_listed W H (2 ^ r.index) start_on d.walk))
           (mem_through x d.crosses)
           (rw (turned_turned s (level r.key)) counted)

@@ -10,7 +10,7 @@ use native.Mathlib.Omega.{arith}
 use lib.ListN.{get_or}
 use lib.IntN.{ℤ}
 use Rattle.basics.proofs.Numbers.{le_or_lt, rows_fit}
-use Rattle.theory.proofs.Towards.{towards-best}
+use Rattle.theory.proofs.Towards.{towards_best}
 use Rattle.frames.specs.Frames.{place_in}
 use Rattle.states.specs.Runs.{Between, Apart}
 use Rattle.plans.specs.Plans.{line_at, steps_at, keys_size}
@@ -28,8 +28,8 @@ use Rattle.theory.specs.Modes.{Levels}
 use Rattle.tracing.proofs.Modes.{keys_bounded}
 use Rattle.walks.proofs.NotedStates.{FromSide, SideNoted}
 use Rattle.walks.proofs.Endings.{ended_by}
-use Rattle.tracing.proofs.Sighting.{sight_planes, sight_states_short, sight_steps_few, sight-rows, sight_sound, sight-keys, keys-laid, sight-sequence}
-use Rattle.tracing.proofs.SeenLaws.{sideKeys, toPixel, seen-ended}
+use Rattle.tracing.proofs.Sighting.{sight_planes, sight_states_short, sight_steps_few, sight_rows, sight_sound, sight_keys, keys_laid, sight_sequence}
+use Rattle.tracing.proofs.SeenLaws.{side_keys, to_pixel, seen_ended}
 
 -- a number and a smaller one beside its multiple are known by their sum
 pub digits_same : (w a b i j : ℕ) → i < w → j < w → a * w + i ≡ b * w + j → (a ≡ b) × (i ≡ j)
@@ -47,9 +47,9 @@ module _ (s : Scan) (sound : Sound s) (backwards : Bool) (x : ℕ) (r : Sight) (
   planes = s.setting.gaps + 1
 
   -- the notes of every row find room
-  pub notes-fit :
+  pub notes_fit :
       (e to size : ℕ) → e < r.states → to + (s.steps + 1) * (s.setting.gaps + 1) ≤ size → to + steps_past r.plan e * r.plan.planes ≤ size
-  notes-fit e to size h room =
+  notes_fit e to size h room =
       let few =
       past_most r.plan e (s.steps + 1) (omega (arith, sight_states_short s sound backwards x r seen))
       (λ m k. sight_steps_few s sound backwards x r seen e m h k) in
@@ -61,12 +61,12 @@ module _ (s : Scan) (sound : Sound s) (backwards : Bool) (x : ℕ) (r : Sight) (
 
   module _ (plate : List ℤ) (levels : Levels plate) (on : x < s.width * s.height) (to : ℕ) (old mid new : List ℕ)
       (zeros : Between (λ (q : ℕ). 0) old mid to (to + (s.steps + 1) * (s.setting.gaps + 1)))
-      (d : Lifted (FromSide r.plan (ended_by s.slack r.plan (sideKeys s sound backwards x r seen plate levels) (seen_at s backwards plate x r)) to r.states) mid new) where
+      (d : Lifted (FromSide r.plan (ended_by s.slack r.plan (side_keys s sound backwards x r seen plate levels) (seen_at s backwards plate x r)) to r.states) mid new) where
     abbrev best : ℕ → ℕ → ℕ → ℕ
-    best l j q = toPixel s sound backwards x r seen plate levels l j q
+    best l j q = to_pixel s sound backwards x r seen plate levels l j q
 
     abbrev numbers : ℕ → ℕ → ℕ → ℕ → ℕ
-    numbers = ended_by s.slack r.plan (sideKeys s sound backwards x r seen plate levels) (seen_at s backwards plate x r)
+    numbers = ended_by s.slack r.plan (side_keys s sound backwards x r seen plate levels) (seen_at s backwards plate x r)
 
     abbrev From : ℕ → ℕ → Type 0
     From q v = FromSide r.plan numbers to r.states q v
@@ -75,8 +75,8 @@ module _ (s : Scan) (sound : Sound s) (backwards : Bool) (x : ℕ) (r : Sight) (
     note_of l j = to + (l * planes + j)
 
     -- what is noted of a pixel is the number of its row
-    seen-is : (l j i z : ℕ) (h : HasRow r.frame r.plan r.states l i z) → best l j (place_in r.frame i z) ≡ numbers h.state h.row j z
-    seen-is l j i z h = sym (rw (h.steps, h.place) at (seen-ended s sound backwards x r seen plate levels h.state h.row j z h.row_below h.low h.high))
+    seen_is : (l j i z : ℕ) (h : HasRow r.frame r.plan r.states l i z) → best l j (place_in r.frame i z) ≡ numbers h.state h.row j z
+    seen_is l j i z h = sym (rw (h.steps, h.place) at (seen_ended s sound backwards x r seen plate levels h.state h.row j z h.row_below h.low h.high))
 
     from_row : (l j i z : ℕ) → j ≤ s.setting.gaps → HasRow r.frame r.plan r.states l i z → From (note_of l j) (best l j (place_in r.frame i z))
     from_row l j i z hj h =
@@ -93,7 +93,7 @@ module _ (s : Scan) (sound : Sound s) (backwards : Bool) (x : ℕ) (r : Sight) (
               low = h.low;
               high = h.high;
               at = rw (h.steps, sight_planes s sound backwards x r seen) (omega arith);
-              is = seen-is l j i z h;
+              is = seen_is l j i z h;
             };
           };
         }
@@ -105,39 +105,39 @@ module _ (s : Scan) (sound : Sound s) (backwards : Bool) (x : ℕ) (r : Sight) (
         let z = w.1 in
         subst (λ (n : ℕ). best l j n ≤ get_or new (note_of l j) 0) w.4
         (⊎_elim (λ none. omega (arith, none j)) (λ h. d.reached (note_of l j) (best l j (place_in r.frame i z)) (from_row l j i z hj h))
-        (sight-rows s sound backwards x r seen (key_of s plate) l i z hl w.2 w.3))
+        (sight_rows s sound backwards x r seen (key_of s plate) l i z hl w.2 w.3))
 
     -- and a note comes from a row of its steps and gaps
-    from-note : (l j v : ℕ) → j ≤ s.setting.gaps → From (note_of l j) v → (q : ℕ) × (v ≡ best l j q)
-    from-note l j v hj f =
+    from_note : (l j v : ℕ) → j ≤ s.setting.gaps → From (note_of l j) v → (q : ℕ) × (v ≡ best l j q)
+    from_note l j v hj f =
         let n = f.number.number in
         let st = steps_at r.plan f.state f.number.row in
         let here = rw (sight_planes s sound backwards x r seen) at n.at in
         let few = rw (sight_planes s sound backwards x r seen) at n.plane_below in
         let same = digits_same planes st l n.plane j few (omega arith) (omega (arith, here)) in (
           pixel_in r.frame r.plan.ranked (line_at r.plan f.state f.number.row) n.pixel,
-          rw (same.0, same.1) at (n.is ∙ seen-ended s sound backwards x r seen plate levels f.state f.number.row n.plane n.pixel f.number.row_below n.low n.high),
+          rw (same.0, same.1) at (n.is ∙ seen_ended s sound backwards x r seen plate levels f.state f.number.row n.plane n.pixel f.number.row_below n.low n.high),
         )
 
     least : (l j : ℕ) → l ≤ s.steps → j ≤ s.setting.gaps → (get_or new (note_of l j) 0 ≡ 0) ⊎ ((q : ℕ) × (get_or new (note_of l j) 0 ≡ best l j q))
     least l j hl hj =
         ⊎_elim
         (λ e. inl (e ∙ zeros.inside (note_of l j) (omega arith) (omega (arith, rows_fit l 1 (s.steps + 1) planes (omega arith)))))
-        (λ f. inr (from-note l j (get_or new (note_of l j) 0) hj f))
+        (λ f. inr (from_note l j (get_or new (note_of l j) 0) hj f))
         (d.source (note_of l j))
 
-    side-noted : Noted s.slack (cells new to) s.width s.height (bit_of s) backwards (key_of s plate) s.setting.gaps s.steps x
-    side-noted =
+    side_noted : Noted s.slack (cells new to) s.width s.height (bit_of s) backwards (key_of s plate) s.setting.gaps s.steps x
+    side_noted =
         record {
           is = λ l j hl hj.
-              towards-best s.slack backwards s.width s.height (bit_of s) (key_of s plate) (keys_bounded s plate levels) x l j sound.few_slack on
+              towards_best s.slack backwards s.width s.height (bit_of s) (key_of s plate) (keys_bounded s plate levels) x l j sound.few_slack on
               (get_or new (note_of l j) 0)
               (λ q hq. upper l j q hl hj hq) (least l j hl hj);
         }
 
     -- where a number is noted
-    noted-within : (q v : ℕ) → From q v → (to ≤ q) × (q < to + (s.steps + 1) * (s.setting.gaps + 1))
-    noted-within q v f =
+    noted_within : (q v : ℕ) → From q v → (to ≤ q) × (q < to + (s.steps + 1) * (s.setting.gaps + 1))
+    noted_within q v f =
         let n = f.number.number in
         let st = steps_at r.plan f.state f.number.row in
         let here : q ≡ to + st * planes + n.plane = rw (sight_planes s sound backwards x r seen) at n.at in
@@ -145,27 +145,27 @@ module _ (s : Scan) (sound : Sound s) (backwards : Bool) (x : ℕ) (r : Sight) (
         let steps = sight_steps_few s sound backwards x r seen f.state f.number.row f.state_below f.number.row_below in
         (omega (arith, here), omega (arith, here, few, rows_fit st 1 (s.steps + 1) planes (omega (arith, steps))))
 
-    side-apart : Apart old new to (to + (s.steps + 1) * (s.setting.gaps + 1))
-    side-apart =
+    side_apart : Apart old new to (to + (s.steps + 1) * (s.setting.gaps + 1))
+    side_apart =
         record {
-          under = λ q h. ⊎_elim (λ e. e ∙ zeros.under q h) (λ f. absurd (omega (arith, noted-within q (get_or new q 0) f))) (d.source q);
-          over = λ q h. ⊎_elim (λ e. e ∙ zeros.over q h) (λ f. absurd (omega (arith, noted-within q (get_or new q 0) f))) (d.source q);
+          under = λ q h. ⊎_elim (λ e. e ∙ zeros.under q h) (λ f. absurd (omega (arith, noted_within q (get_or new q 0) f))) (d.source q);
+          over = λ q h. ⊎_elim (λ e. e ∙ zeros.over q h) (λ f. absurd (omega (arith, noted_within q (get_or new q 0) f))) (d.source q);
           len = d.len ∙ zeros.len;
         }
 
   -- all states of the side are noted, and stand behind the keys
-  pub side-notes :
+  pub side_notes :
       (plate : List ℤ) → x < s.width * s.height → (to : ℕ) (work work' old mid new : List ℕ) → KeysLaid s plate work →
       Between (λ (q : ℕ). 0) old mid to (to + (s.steps + 1) * (s.setting.gaps + 1)) →
       SideNoted r.plan s.slack r.states to (keys_size r.plan) r.states work work' mid new → NotedSide s backwards plate x to work' old new
-  side-notes plate on to work work' old mid new laid zeros d =
-      let keys = sight-keys s sound backwards x r seen plate work laid in
-      let notes = (d.is _ _ keys (sight-sequence s sound backwards x r seen plate)).1 in
+  side_notes plate on to work work' old mid new laid zeros d =
+      let keys = sight_keys s sound backwards x r seen plate work laid in
+      let notes = (d.is _ _ keys (sight_sequence s sound backwards x r seen plate)).1 in
       record {
-        noted = side-noted plate laid.levels on to old mid new zeros notes;
-        apart = side-apart plate laid.levels on to old mid new zeros notes;
+        noted = side_noted plate laid.levels on to old mid new zeros notes;
+        apart = side_apart plate laid.levels on to old mid new zeros notes;
         left =
-            keys-laid s sound backwards x r seen plate work' laid.levels
+            keys_laid s sound backwards x r seen plate work' laid.levels
             (keys_apart r.plan (sight_sound s sound backwards x r seen) work work' _ _ _ d.apart (omega arith) keys);
       }
 

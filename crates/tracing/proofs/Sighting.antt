@@ -22,14 +22,14 @@ use Rattle.plans.specs.declared.plan.Plan.{Plan}
 use Rattle.directions.specs.Plans.{by_rows}
 use Rattle.directions.specs.Numbers.{KeptOn, place_kept, keys_by}
 use Rattle.directions.specs.Doors.{frame_of, spot_of, fits, lays, Laid, sight_of}
-use Rattle.directions.proofs.DoorLaws.{fits_if, lays-if}
-use Rattle.directions.proofs.SightLaws.{sight-told}
+use Rattle.directions.proofs.DoorLaws.{fits_if, lays_if}
+use Rattle.directions.proofs.SightLaws.{sight_told}
 use Rattle.directions.proofs.TableLaws.{frame_told}
 use Rattle.directions.proofs.TraceLaws.{spot_known}
 use Rattle.directions.proofs.KeptLaws.{kept_line, kept_rank, inside_line, inside_rank}
 use Rattle.directions.proofs.TraceRows.{HasRow, trace_rows}
 use Rattle.directions.proofs.RoomLaws.{Roomy}
-use Rattle.directions.proofs.TracePlans.{trace_planes, trace_slack, trace_lines, trace_across, trace_ranked, trace_states_few, trace_steps_few, trace-formed, trace-room, trace-sequence}
+use Rattle.directions.proofs.TracePlans.{trace_planes, trace_slack, trace_lines, trace_across, trace_ranked, trace_states_few, trace_steps_few, trace_formed, trace_room, trace_sequence}
 use Rattle.tracing.specs.Scans.{Sound, bit_of, key_of, KeysLaid}
 use Rattle.tracing.specs.Sights.{Seen, seen_at}
 use Rattle.tracing.specs.declared.scan.Scan.{Scan}
@@ -54,7 +54,7 @@ scan_fits s sound =
 pub seen_by : (s : Scan) → Sound s → (backwards : Bool) (x : ℕ) → x < s.width * s.height → (r : Sight) →
     r ≡ sight_of s.width s.height s.setting s.index backwards x → Seen s backwards x r
 seen_by s sound backwards x on r e =
-    let told = sight-told s.width s.height s.setting s.index backwards x (scan_fits s sound) on r e in
+    let told = sight_told s.width s.height s.setting s.index backwards x (scan_fits s sound) on r e in
     let known = frame_told s.width s.height sound.size r.frame s.index sound.known told.0 in
     record {
       is_frame = told.0;
@@ -100,7 +100,7 @@ module _ (s : Scan) (sound : Sound s) (backwards : Bool) (x : ℕ) (r : Sight) (
   pub sight_formed : well_formed r.plan ≡ true
   sight_formed =
       rw seen.is_plan
-      (trace-formed r.frame s.width s.height s.index seen.framed seen.of rows back (s.steps + 1) (s.setting.gaps + 1) seen.spot x
+      (trace_formed r.frame s.width s.height s.index seen.framed seen.of rows back (s.steps + 1) (s.setting.gaps + 1) seen.spot x
       seen.is_spot
       (omega arith) (omega (arith, sound.few_steps)) (omega arith) (omega (arith, sound.few)))
 
@@ -110,7 +110,7 @@ module _ (s : Scan) (sound : Sound s) (backwards : Bool) (x : ℕ) (r : Sight) (
   pub sight_room : (room : ℕ) → 4 * (s.setting.gaps + 1) * (s.width * s.height) ≤ room → Roomy r.plan room
   sight_room room h =
       rw seen.is_plan
-      (trace-room r.frame s.width s.height s.index seen.framed seen.of rows back (s.steps + 1) (s.setting.gaps + 1) seen.spot x
+      (trace_room r.frame s.width s.height s.index seen.framed seen.of rows back (s.steps + 1) (s.setting.gaps + 1) seen.spot x
       seen.is_spot
       (omega arith) (omega (arith, sound.few)) (omega arith) (omega (arith, sound.few_steps)) room (rw seen.framed.area h))
 
@@ -142,7 +142,7 @@ module _ (s : Scan) (sound : Sound s) (backwards : Bool) (x : ℕ) (r : Sight) (
   pub sight_lays : (plate work : ℕ) → plate ≡ s.width * s.height → s.width * s.height ≤ work →
       lays s.width s.height s.index r.plan.ranked plate work ≡ true
   sight_lays plate work =
-      lays-if s.width s.height s.index r.plan.ranked plate work sound.size sound.known
+      lays_if s.width s.height s.index r.plan.ranked plate work sound.size sound.known
       (λ e. rw seen.is_frame at (sight_kept.slim e))
 
   -- the keys of the plate stand where the plan has them
@@ -150,14 +150,14 @@ module _ (s : Scan) (sound : Sound s) (backwards : Bool) (x : ℕ) (r : Sight) (
       let f = frame_of s.width s.height s.index in place_kept f f.diagonal q ≡ place_kept r.frame r.plan.ranked q
   place_same q = rw (sight_ranked, seen.is_frame) refl
 
-  pub sight-keys :
+  pub sight_keys :
       (plate : List ℤ) (work : List ℕ) → KeysLaid s plate work → KeysAre work r.plan (λ q. key_of s plate (place_kept r.frame r.plan.ranked q))
-  sight-keys plate work l = record { is = λ q h. l.keys q (omega (arith, sight_keys_size, sight_area)) ∙ ap (key_of s plate) (place_same q) }
+  sight_keys plate work l = record { is = λ q h. l.keys q (omega (arith, sight_keys_size, sight_area)) ∙ ap (key_of s plate) (place_same q) }
 
-  pub keys-laid :
+  pub keys_laid :
       (plate : List ℤ) (work : List ℕ) → Levels plate → KeysAre work r.plan (λ q. key_of s plate (place_kept r.frame r.plan.ranked q)) →
       KeysLaid s plate work
-  keys-laid plate work levels k =
+  keys_laid plate work levels k =
       record { keys = λ q h. k.is q (omega (arith, sight_keys_size, sight_area)) ∙ ap (key_of s plate) (sym (place_same q)); levels = levels }
 
   -- every pixel has its key somewhere
@@ -182,7 +182,7 @@ module _ (s : Scan) (sound : Sound s) (backwards : Bool) (x : ℕ) (r : Sight) (
       Laid s.width s.height s.index r.plan.ranked s.setting.mode plate old new → KeysLaid s plate new
   unfolding key_of keys_by
   all_laid plate old new size l =
-      keys-laid plate new
+      keys_laid plate new
       (levels_within plate
       (λ p h.
       let w = seen.framed.whole p (omega arith) in
@@ -191,19 +191,19 @@ module _ (s : Scan) (sound : Sound s) (backwards : Bool) (x : ℕ) (r : Sight) (
       (l.small.size k.0 (omega arith) (omega (arith, k.1, sight_area)))))
       (record { is = λ q h. rw seen.is_frame (l.keys.inside q (omega arith) (omega (arith, sight_keys_size, sight_area))) })
 
-  pub sight-sequence :
+  pub sight_sequence :
       (plate : List ℤ) → Sequence r.plan (λ q. key_of s plate (place_kept r.frame r.plan.ranked q)) r.states (seen_at s backwards plate x r)
-  sight-sequence plate =
+  sight_sequence plate =
       rw (seen.is_plan, seen.is_states)
-      (trace-sequence r.frame s.width s.height s.index seen.framed seen.of rows back (s.steps + 1) (s.setting.gaps + 1) seen.spot x
+      (trace_sequence r.frame s.width s.height s.index seen.framed seen.of rows back (s.steps + 1) (s.setting.gaps + 1) seen.spot x
       seen.is_spot
       (key_of s plate) _ (λ q. refl))
 
   -- a pixel whose walks of l steps count at all has a row of the plan
-  pub sight-rows :
+  pub sight_rows :
       (g : ℕ → ℕ) (l i z : ℕ) → l ≤ s.steps → i < r.frame.lines → z < r.frame.across →
       ((j : ℕ) → towards backwards s.width s.height (bit_of s) g x l j (place_in r.frame i z) ≡ 0) ⊎ HasRow r.frame r.plan r.states l i z
-  sight-rows g l i z h hi hz =
+  sight_rows g l i z h hi hz =
       rw (seen.is_plan, seen.is_states)
       (trace_rows r.frame s.width s.height s.index seen.framed seen.of rows back (s.steps + 1) (s.setting.gaps + 1) seen.spot x
       seen.is_spot g l i z

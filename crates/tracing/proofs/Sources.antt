@@ -118,21 +118,21 @@ module _ (p : Plan) (sound : Sound p) (f : ℕ → ℕ → ℕ → ℕ → ℕ) 
               };
         }
 
-    low-source : (key j : ℕ) → key < t → t ≤ before j → (under t key ≤ j) × Source p f s t (j - under t key)
-    low-source key zero l h = absurd (no_layer h)
-    low-source key (suc j) l h =
+    low_source : (key j : ℕ) → key < t → t ≤ before j → (under t key ≤ j) × Source p f s t (j - under t key)
+    low_source key zero l h = absurd (no_layer h)
+    low_source key (suc j) l h =
         let e : suc j - under t key ≡ j = omega (arith, under_low t key l) in
         (omega (arith, under_low t key l), rw e (ahead_source j h))
 
-    high-source : (j : ℕ) → t ≤ before j → Source p f s t j
-    high-source zero h = absurd (no_layer h)
-    high-source (suc j) h = raised j (ahead_source j h)
+    high_source : (j : ℕ) → t ≤ before j → Source p f s t j
+    high_source zero h = absurd (no_layer h)
+    high_source (suc j) h = raised j (ahead_source j h)
 
-    either-source : (key j : ℕ) → t ≤ max (min key (before (suc j))) (before j) → Source p f s t j
-    either-source key j h =
+    either_source : (key j : ℕ) → t ≤ max (min key (before (suc j))) (before j) → Source p f s t j
+    either_source key j h =
         ⊎_elim
         (λ (l : t ≤ min key (before (suc j))). let l' : t ≤ before (suc j) = omega arith in ahead_source j l')
-        (λ (l : t ≤ before j). high-source j l)
+        (λ (l : t ≤ before j). high_source j l)
         (le_max_split t (min key (before (suc j))) (before j) h)
 
     pub source :
@@ -148,8 +148,8 @@ module _ (p : Plan) (sound : Sound p) (f : ℕ → ℕ → ℕ → ℕ → ℕ) 
         (λ (l : t ≤ key).
         let e : j - under t key ≡ j = omega (arith, under_high t key l) in
         let o : under t key ≤ j = omega (arith, under_high t key l) in
-        (o, rw e (either-source key j told)))
-        (λ (l : key < t). let k : t ≤ before j = omega arith in low-source key j l k)
+        (o, rw e (either_source key j told)))
+        (λ (l : key < t). let k : t ≤ before j = omega arith in low_source key j l k)
         (le_or_lt t key)
 
 -- a row of walks of some steps is no starting row

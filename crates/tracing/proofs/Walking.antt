@@ -25,10 +25,10 @@ use Rattle.tracing.specs.declared.scan.Scan.{Scan}
 use Rattle.directions.specs.declared.sight.Sight.{Sight}
 use Rattle.theory.specs.BestWalks.{under}
 use Rattle.theory.specs.Modes.{Levels}
-use Rattle.tracing.proofs.Inward.{Inward, inward-nearer, inward-trail, inward-few, inward-end}
+use Rattle.tracing.proofs.Inward.{Inward, inward_nearer, inward_trail, inward_few, inward_end}
 use Rattle.walks.proofs.Picking.{picked_held}
-use Rattle.tracing.proofs.Sighting.{sight_planes, sight-keys, sight-sequence}
-use Rattle.tracing.proofs.Nearing.{place_of, with_gaps, stand_picked, step_wanted, gap-left, nearer-stands, nearer-place}
+use Rattle.tracing.proofs.Sighting.{sight_planes, sight_keys, sight_sequence}
+use Rattle.tracing.proofs.Nearing.{place_of, with_gaps, stand_picked, step_wanted, gap_left, nearer_stands, nearer_place}
 
 -- ---- the stack
 
@@ -47,10 +47,10 @@ top_state work marks base p f (suc k) want d e some =
 module _ (s : Scan) (b : Bool) (plate : List ℤ) (x : ℕ) (r : Sight) (sound : Sound s) (view : Seen s b x r) where
   -- before the first state is made
   module _ (work marks : List ℕ) (stack : Stack) (none : stack.depth ≡ 0) where
-    pub empty-fits :
+    pub empty_fits :
         Roomy r.plan (length work) → stack.base ≡ keys_size r.plan → 1 ≤ stack.places → stack.places ≤ 64 →
         stack.places * state_size r.plan ≤ length work - stack.base → stack.places ≤ length marks → StackFits r.plan stack (length work) (length marks)
-    empty-fits room is_base some few inside in_marks =
+    empty_fits room is_base some few inside in_marks =
         record {
           past_keys = omega arith;
           near = omega (arith, room.keys);
@@ -61,10 +61,10 @@ module _ (s : Scan) (b : Bool) (plate : List ℤ) (x : ℕ) (r : Sight) (sound :
           in_marks = in_marks;
         }
 
-    pub kept-empty : KeysLaid s plate work → StackFits r.plan stack (length work) (length marks) → Kept s b plate x r work marks stack
-    kept-empty laid fits =
+    pub kept_empty : KeysLaid s plate work → StackFits r.plan stack (length work) (length marks) → Kept s b plate x r work marks stack
+    kept_empty laid fits =
         record {
-          keys = sight-keys s sound b x r view plate work laid;
+          keys = sight_keys s sound b x r view plate work laid;
           states =
               record {
                 marked = λ t l. absurd (omega arith);
@@ -80,10 +80,10 @@ module _ (s : Scan) (b : Bool) (plate : List ℤ) (x : ℕ) (r : Sight) (sound :
     stacked : Stacked work' marks' stack.base r.plan (seen_at s b plate x r) new.depth
     stacked =
         fetched.is (λ q. key_of s plate (place_kept r.frame r.plan.ranked q)) (seen_at s b plate x r) kept.keys
-        (fewer_states r.plan _ r.states want (seen_at s b plate x r) few (sight-sequence s sound b x r view plate)) kept.states
+        (fewer_states r.plan _ r.states want (seen_at s b plate x r) few (sight_sequence s sound b x r view plate)) kept.states
 
-    pub kept-fetched : Kept s b plate x r work' marks' new
-    kept-fetched =
+    pub kept_fetched : Kept s b plate x r work' marks' new
+    kept_fetched =
         let f = kept.fits in
         record {
           keys = record { is = λ q l. fetched.apart.under q (omega (arith, f.past_keys)) ∙ kept.keys.is q l };
@@ -101,19 +101,19 @@ module _ (s : Scan) (b : Bool) (plate : List ℤ) (x : ℕ) (r : Sight) (sound :
         }
 
     module _ (top : ℕ) (is-top : top ≡ new.base + (new.depth - 1) * state_size r.plan) where
-      top-same : top ≡ stack.base + (new.depth - 1) * state_size r.plan
-      top-same = is-top ∙ rw same_base
+      top_same : top ≡ stack.base + (new.depth - 1) * state_size r.plan
+      top_same = is-top ∙ rw same_base
 
-      pub top-held : 1 ≤ want → Holds work' top r.plan (want - 1) (seen_at s b plate x r (want - 1))
-      top-held some = rw top-same (top_state work' marks' stack.base r.plan (seen_at s b plate x r) new.depth want stacked (omega (arith, fetched.not_past, fetched.near)) some)
+      pub top_held : 1 ≤ want → Holds work' top r.plan (want - 1) (seen_at s b plate x r (want - 1))
+      top_held some = rw top_same (top_state work' marks' stack.base r.plan (seen_at s b plate x r) new.depth want stacked (omega (arith, fetched.not_past, fetched.near)) some)
 
       -- behind the keys and within the work buffer
       pub top_fits : (keys_size r.plan ≤ top) × (top + state_size r.plan ≤ length work')
       top_fits = (
-        omega (arith, top-same, kept.fits.past_keys),
+        omega (arith, top_same, kept.fits.past_keys),
         omega (
           arith,
-          top-same,
+          top_same,
           rows_fit (new.depth - 1) 1 stack.places (state_size r.plan) (omega (arith, kept.fits.some)),
           kept.fits.in_work,
           fetched.apart.len,
@@ -132,12 +132,12 @@ module _ (s : Scan) (b : Bool) (plate : List ℤ) (x : ℕ) (r : Sight) (sound :
 
   module _ (levels : Levels plate) (t : ℕ) (positive : 1 ≤ t) (old : List ℕ) (start m gaps : ℕ) (within : Within b (length old) start m)
       (path : List ℕ) (stand : Stand) where
-    pub stand-wanted : (n : ℕ) → Stands s b plate x r t n stand → cond r.plan.ranked stand.state 1 ≤ r.states
-    stand-wanted n d = nearer_few r.plan.ranked stand.state d.state
+    pub stand_wanted : (n : ℕ) → Stands s b plate x r t n stand → cond r.plan.ranked stand.state 1 ≤ r.states
+    stand_wanted n d = nearer_few r.plan.ranked stand.state d.state
 
-    pub stand-some : (n : ℕ) → Stands s b plate x r t n stand → 0 < n → 1 ≤ cond r.plan.ranked stand.state 1
-    stand-some zero d l = absurd (omega arith)
-    stand-some (suc n) d l = nearer_some r.plan.ranked stand.state stand.row n d.steps
+    pub stand_some : (n : ℕ) → Stands s b plate x r t n stand → 0 < n → 1 ≤ cond r.plan.ranked stand.state 1
+    stand_some zero d l = absurd (omega arith)
+    stand_some (suc n) d l = nearer_some r.plan.ranked stand.state stand.row n d.steps
 
     module _ (k : ℕ) (d : Stands s b plate x r t (suc k) stand) (h : suc k ≤ m)
         (inward : Inward s.slack s.width s.height (bit_of s) b (key_of s plate) t old start m gaps path (suc k) (place_of r stand) stand.gaps)
@@ -145,8 +145,8 @@ module _ (s : Scan) (b : Bool) (plate : List ℤ) (x : ℕ) (r : Sight) (sound :
         (is-want : want ≡ cond r.plan.ranked stand.state 1)
         (held : Holds work top r.plan (want - 1) (seen_at s b plate x r (want - 1))) (to : Stand)
         (picked : Picked (StepTo r.plan (with_gaps stand left)) (stored_at work top r.plan) r.plan left t to) where
-      seen-picked : Picked (StepTo r.plan (with_gaps stand left)) (seen_at s b plate x r) r.plan left t to
-      seen-picked =
+      seen_picked : Picked (StepTo r.plan (with_gaps stand left)) (seen_at s b plate x r) r.plan left t to
+      seen_picked =
           picked_held work top r.plan (seen_at s b plate x r) left t (omega (arith, d.gaps, sight_planes s sound b x r view))
           (StepTo r.plan (with_gaps stand left)) to
           (λ e n z row low high step.
@@ -155,17 +155,17 @@ module _ (s : Scan) (b : Bool) (plate : List ℤ) (x : ℕ) (r : Sight) (sound :
           rw e= held)
           picked
 
-      walk-stands : Stands s b plate x r t k to
-      walk-stands = nearer-stands s b plate x r sound levels view t positive (suc k) stand d k refl left is-left to seen-picked
+      walk_stands : Stands s b plate x r t k to
+      walk_stands = nearer_stands s b plate x r sound levels view t positive (suc k) stand d k refl left is-left to seen_picked
 
-      walk-inward :
+      walk_inward :
           (i place : ℕ) → i ≡ index_after b start (suc k) → place ≡ place_of r stand →
           Inward s.slack s.width s.height (bit_of s) b (key_of s plate) t old start m gaps (set path i place) k (place_of r to) to.gaps
-      walk-inward i place is-i is_place =
+      walk_inward i place is-i is_place =
           rw (is-i, is_place)
-          (inward-nearer s.slack s.width s.height (bit_of s) b (key_of s plate) t old start m gaps within path k (place_of r stand) stand.gaps
-          (place_of r to) to.gaps h inward (nearer-place s b plate x r sound levels view t positive (suc k) stand d k refl left is-left to seen-picked)
-          (omega (arith, seen-picked.is_gaps, gap-left s b plate x r sound levels view t positive (suc k) stand d k refl)))
+          (inward_nearer s.slack s.width s.height (bit_of s) b (key_of s plate) t old start m gaps within path k (place_of r stand) stand.gaps
+          (place_of r to) to.gaps h inward (nearer_place s b plate x r sound levels view t positive (suc k) stand d k refl left is-left to seen_picked)
+          (omega (arith, seen_picked.is_gaps, gap_left s b plate x r sound levels view t positive (suc k) stand d k refl)))
 
     -- the same with any number of steps left
     pub walk_on :
@@ -181,8 +181,8 @@ module _ (s : Scan) (b : Bool) (plate : List ℤ) (x : ℕ) (r : Sight) (sound :
     walk_on (suc k) l d h inward left is-left work top want is-want held to picked i place is-i is_place =
         let e : suc k - 1 ≡ k = omega arith in
         rw e (
-          walk-stands k d h inward left is-left work top want is-want held to picked,
-          walk-inward k d h inward left is-left work top want is-want held to picked i place is-i is_place,
+          walk_stands k d h inward left is-left work top want is-want held to picked,
+          walk_inward k d h inward left is-left work top want is-want held to picked i place is-i is_place,
         )
 
     -- ---- the picked pixel is come to
@@ -195,9 +195,9 @@ module _ (s : Scan) (b : Bool) (plate : List ℤ) (x : ℕ) (r : Sight) (sound :
       walk_ends =
           let l = stand_picked s b plate x r sound levels view t positive n stand d none in
           let i = rw none at inward in (
-            inward-trail s.slack s.width s.height (bit_of s) b (key_of s plate) t old start m gaps within path (place_of r stand) stand.gaps i (l.0 ∙ picked),
+            inward_trail s.slack s.width s.height (bit_of s) b (key_of s plate) t old start m gaps within path (place_of r stand) stand.gaps i (l.0 ∙ picked),
             (
-              inward-few s.slack s.width s.height (bit_of s) b (key_of s plate) t old start m gaps within path (place_of r stand) stand.gaps i (l.0 ∙ picked) l.1,
-              inward-end s.slack s.width s.height (bit_of s) b (key_of s plate) t old start m gaps within path (place_of r stand) stand.gaps i (l.0 ∙ picked),
+              inward_few s.slack s.width s.height (bit_of s) b (key_of s plate) t old start m gaps within path (place_of r stand) stand.gaps i (l.0 ∙ picked) l.1,
+              inward_end s.slack s.width s.height (bit_of s) b (key_of s plate) t old start m gaps within path (place_of r stand) stand.gaps i (l.0 ∙ picked),
             ),
           )

@@ -85,10 +85,10 @@ module _ (p : Plan) (e to base notes work : ℕ) where
   unfolding can_note
   note_3 a b d = rw (a, lt-ltb e 65536 b, lt-leb base 65536 d) refl
 
-  pub note-4 :
+  pub note_4 :
       can_read p base work ≡ true → e < 65536 → base ≤ 65536 → leb (to + steps_past p e * p.planes) notes ≡ can_note p e to base notes work
   unfolding can_note
-  note-4 a b d = rw (a, lt-ltb e 65536 b, le-leb base 65536 d) refl
+  note_4 a b d = rw (a, lt-ltb e 65536 b, le-leb base 65536 d) refl
 
   pub record Note : Type 0 where
     pub read : Read p base work
@@ -114,7 +114,7 @@ module _ (p : Plan) (e to base notes work : ℕ) where
 
   pub note_if : Note → can_note p e to base notes work ≡ true
   note_if h =
-      sym (note-4 (read_if p base work h.read) h.few h.near) ∙ le-leb (to + steps_past p e * p.planes) notes h.room
+      sym (note_4 (read_if p base work h.read) h.few h.near) ∙ le-leb (to + steps_past p e * p.planes) notes h.room
 
 -- ---- the far end of a walk
 
@@ -137,16 +137,16 @@ module _ (p : Plan) (base steps gaps work : ℕ) where
   end_3 a b k = rw (a, lt-ltb gaps p.planes b, k) refl
 
   -- on lines
-  pub end-4 :
+  pub end_4 :
       can_read p base work ≡ true → gaps < p.planes → p.ranked ≡ false → (rows : ℕ) → rows ≡ rows_in p 0 → ltb steps rows ≡ can_end p base steps gaps work
   unfolding can_end
-  end-4 a b k rows e = rw (a, lt-ltb gaps p.planes b, line_most p.ranked (rows_in p 0) k, e) refl
+  end_4 a b k rows e = rw (a, lt-ltb gaps p.planes b, line_most p.ranked (rows_in p 0) k, e) refl
 
   pub record End : Type 0 where
     pub read : Read p base work
     pub few : gaps < p.planes
     pub near : steps < 65536
-    pub on-lines : p.ranked ≡ false → steps < rows_in p 0
+    pub on_lines : p.ranked ≡ false → steps < rows_in p 0
 
   -- so many steps as walks can have
   most_few : well_formed p ≡ true → (b : Bool) → cond b 65536 (rows_in p 0) ≤ 65536
@@ -167,7 +167,7 @@ module _ (p : Plan) (base steps gaps work : ℕ) where
         read = read;
         few = ltb-true gaps p.planes a1.1;
         near = omega (arith, below, most_few read.form p.ranked);
-        on-lines = λ k. omega (arith, below, line_most p.ranked (rows_in p 0) k);
+        on_lines = λ k. omega (arith, below, line_most p.ranked (rows_in p 0) k);
       }
 
   pub end_if : End → can_end p base steps gaps work ≡ true
@@ -175,7 +175,7 @@ module _ (p : Plan) (base steps gaps work : ℕ) where
     where
       go : (b : Bool) → p.ranked ≡ b → can_end p base steps gaps work ≡ true
       go true k = sym (end_3 (read_if p base work h.read) h.few k) ∙ lt-ltb steps 65536 h.near
-      go false k = sym (end-4 (read_if p base work h.read) h.few k (rows_in p 0) refl) ∙ lt-ltb steps (rows_in p 0) (h.on-lines k)
+      go false k = sym (end_4 (read_if p base work h.read) h.few k (rows_in p 0) refl) ∙ lt-ltb steps (rows_in p 0) (h.on_lines k)
 
 -- ---- a step
 
@@ -192,10 +192,10 @@ module _ (p : Plan) (s : Stand) where
   unfolding on_row
   row_3 a rows e b d = rw (lt-ltb s.state 65536 a, sym e, lt-ltb s.row rows b, le-ltb s.pixel p.across d) refl
 
-  pub row-4 :
+  pub row_4 :
       s.state < 65536 → (rows : ℕ) → rows ≡ rows_in p s.state → s.row < rows → s.pixel < p.across → ltb s.gaps p.planes ≡ on_row p s
   unfolding on_row
-  row-4 a rows e b d = rw (lt-ltb s.state 65536 a, sym e, lt-ltb s.row rows b, lt-ltb s.pixel p.across d) refl
+  row_4 a rows e b d = rw (lt-ltb s.state 65536 a, sym e, lt-ltb s.row rows b, lt-ltb s.pixel p.across d) refl
 
   pub row_facts : on_row p s ≡ true → OnRow p s
   unfolding on_row
@@ -214,20 +214,20 @@ module _ (p : Plan) (s : Stand) where
       }
 
   pub row_if : OnRow p s → on_row p s ≡ true
-  row_if h = sym (row-4 h.state (rows_in p s.state) refl h.row h.pixel) ∙ lt-ltb s.gaps p.planes h.gaps
+  row_if h = sym (row_4 h.state (rows_in p s.state) refl h.row h.pixel) ∙ lt-ltb s.gaps p.planes h.gaps
 
   module _ (base work : ℕ) where
-    pub step-1 : can_read p base work ≡ false → false ≡ can_step p base s work
+    pub step_1 : can_read p base work ≡ false → false ≡ can_step p base s work
     unfolding can_step
-    step-1 a = rw a refl
+    step_1 a = rw a refl
 
-    pub step-2 : can_read p base work ≡ true → on_row p s ≡ can_step p base s work
+    pub step_2 : can_read p base work ≡ true → on_row p s ≡ can_step p base s work
     unfolding can_step
-    step-2 a = rw a refl
+    step_2 a = rw a refl
 
-    pub step-facts : can_step p base s work ≡ true → Read p base work × OnRow p s
+    pub step_facts : can_step p base s work ≡ true → Read p base work × OnRow p s
     unfolding can_step
-    step-facts t = let a = both (can_read p base work) (on_row p s) t in (read_facts p base work a.0, row_facts a.1)
+    step_facts t = let a = both (can_read p base work) (on_row p s) t in (read_facts p base work a.0, row_facts a.1)
 
-    pub step-if : Read p base work → OnRow p s → can_step p base s work ≡ true
-    step-if r o = sym (step-2 (read_if p base work r)) ∙ row_if o
+    pub step_if : Read p base work → OnRow p s → can_step p base s work ≡ true
+    step_if r o = sym (step_2 (read_if p base work r)) ∙ row_if o

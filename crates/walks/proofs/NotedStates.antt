@@ -46,12 +46,12 @@ module _ (p : Plan) (f : ℕ → ℕ → ℕ → ℕ → ℕ) (to e : ℕ) where
       (λ l. inl (record { state = s.state; state_below = l; number = s.number }))
       (le_or_lt e s.state)
 
-  side-lifted-more :
+  side_lifted_more :
       (slack base : ℕ) (work old mid new : List ℕ) →
       ((m j x : ℕ) → m < rows_in p e → j < p.planes → row_lo p e m ≤ x → x < row_hi p e m → ended_in work slack base p e m j x ≡ f e m j x) →
       Lifted (FromSide p f to e) old mid → Lifted (FromState p (ended_in work slack base p e) to e (rows_in p e)) mid new →
       Lifted (FromSide p f to (e + 1)) old new
-  side-lifted-more slack base work old mid new same d n =
+  side_lifted_more slack base work old mid new same d n =
       lifted_then _ _ _ old mid new side_split
       (λ q v s. record { state = s.state; state_below = omega (arith, s.state_below); number = s.number })
       (λ q v s. record { state = e; state_below = omega arith; number = s })
@@ -88,7 +88,7 @@ side_more p sound slack states to base e work₀ work work' notes₀ notes notes
           clear k) s before.0 in
           let kept = keys_apart p sound work₀ work' keys base (base + state_size p) both clear k in (
             last_made p sound work' base e f held,
-            side-lifted-more p (ended_by slack p keys f) to e slack base work' notes₀ notes notes'
+            side_lifted_more p (ended_by slack p keys f) to e slack base work' notes₀ notes notes'
                 (ended_held p sound slack base e work' keys f few held kept) before.1 n,
           );
       apart = both;

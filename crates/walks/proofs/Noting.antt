@@ -42,15 +42,15 @@ module _ (f : ℕ → ℕ → ℕ) (lo hi to j : ℕ) where
   row_last : (q v : ℕ) → FromRun (f j) lo hi (to + j) q v → FromRow f lo hi to (j + 1) q v
   row_last q v s = record { plane = j; pixel = s.pixel; plane_below = omega arith; low = s.low; high = s.high; at = s.at; is = s.is }
 
-  pub row-lifted-more :
+  pub row_lifted_more :
       (r : ℕ) (old mid : List ℕ) → to + j < length mid → Lifted (FromRow f lo hi to j) old mid → Highest (f j) lo hi (get_or mid (to + j) 0) r →
       Lifted (FromRow f lo hi to (j + 1)) old (set mid (to + j) r)
-  row-lifted-more r old mid l d h =
+  row_lifted_more r old mid l d h =
       lifted_then _ _ _ old mid (set mid (to + j) r) row_split row_wider row_last d (lifted_set (f j) lo hi (to + j) r mid l h)
 
 -- the run of the work buffer that is plane j of a row, with the run of its keys
 module _ (work : List ℕ) (slack key at across j lo hi from keys n v r : ℕ) (ordered : lo ≤ hi) (is-n : n ≡ hi - lo)
-    (is-from : from ≡ at + lo + j * across) (is-keys : keys ≡ key + lo) where
+    (is_from : from ≡ at + lo + j * across) (is-keys : keys ≡ key + lo) where
   cell_same : (x k : ℕ) → x ≡ lo + k → ended_at work slack (keys + k) (from + k) ≡ row_ended work slack key at across j x
   cell_same x k e =
       let there : from + k ≡ at + (j * across + x) = omega arith in
@@ -82,9 +82,9 @@ module _ (p : Plan) (f : ℕ → ℕ → ℕ → ℕ) (to e m : ℕ) where
       (λ l. inl (record { row = s.row; row_below = l; number = s.number }))
       (le_or_lt m s.row)
 
-  pub state-lifted-more :
+  pub state_lifted_more :
       (old mid new : List ℕ) → Lifted (FromState p f to e m) old mid → Lifted (RowOf m) mid new → Lifted (FromState p f to e (m + 1)) old new
-  state-lifted-more old mid new d r =
+  state_lifted_more old mid new d r =
       lifted_then _ _ _ old mid new state_split
       (λ q v s. record { row = s.row; row_below = omega (arith, s.row_below); number = s.number })
       (λ q v s. record { row = m; row_below = omega arith; number = s })

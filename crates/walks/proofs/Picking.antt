@@ -75,8 +75,8 @@ module _ (work : List ℕ) (slack base : ℕ) (p : Plan) (state j t : ℕ) where
   module _ (m lo hi at key keys : ℕ) (is-lo : lo ≡ row_lo p state m) (is-hi : hi ≡ row_hi p state m) (is_key : key ≡ row_at p state m)
       (is_at : at ≡ base + m * row_size p + j * p.across + lo) (is-keys : keys ≡ key + lo) where
     -- the places where the code reads
-    read-place : (x k : ℕ) → x ≡ lo + k → ended_at work slack (keys + k) (at + k) ≡ ended_in work slack base p state m j x
-    read-place x k e =
+    read_place : (x k : ℕ) → x ≡ lo + k → ended_at work slack (keys + k) (at + k) ≡ ended_in work slack base p state m j x
+    read_place x k e =
         let same : at + k ≡ base + (m * row_size p + (j * p.across + x)) = omega arith in
         let beside : keys + k ≡ row_at p state m + x = omega arith in
         rw (same, beside)
@@ -93,23 +93,23 @@ module _ (work : List ℕ) (slack base : ℕ) (p : Plan) (state j t : ℕ) where
               let same : n ≡ m = omega arith in
               let told : Tells (ended_in work slack base p) p j t state m x = rw same at k in
               let here : ended_in work slack base p state m j x < t =
-              rw (read-place x (x - lo) (let e : x ≡ lo + (x - lo) = omega (arith, told.low) in e)) at (low (x - lo) (omega (arith, told.low, told.high))) in
+              rw (read_place x (x - lo) (let e : x ≡ lo + (x - lo) = omega (arith, told.low) in e)) at (low (x - lo) (omega (arith, told.low, told.high))) in
               omega (arith, told.counts, here))
               (less_or_more n m);
         }
 
-    pub row-picked :
+    pub row_picked :
         (first past k : ℕ) (r : Stand) → r.state ≡ state → r.row ≡ m → r.pixel ≡ lo + k → r.gaps ≡ j → first ≤ m → m < past → m < rows_in p state →
         hi ≤ p.across → k < hi - lo → t ≤ ended_at work slack (keys + k) (at + k) → Picked (RowsFrom state first past) (ended_in work slack base p) p j t r
-    row-picked first past k r es em ex eg h l row wide within high =
+    row_picked first past k r es em ex eg h l row wide within high =
         picked_one (RowsFrom state first past) (ended_in work slack base p) p j t r eg (omega arith) (es, omega arith, omega arith)
         (rw (es, em, ex)
-        (record { row = row; low = omega arith; high = omega arith; counts = rw (read-place (lo + k) k refl) at high }))
+        (record { row = row; low = omega arith; high = omega arith; counts = rw (read_place (lo + k) k refl) at high }))
 
-  pub missed-picked :
+  pub missed_picked :
       (first past row : ℕ) (r : Stand) → past ≤ row → Missed first row → p.across ≤ r.pixel → r.gaps ≡ j →
       Picked (RowsFrom state first past) (ended_in work slack base p) p j t r
-  missed-picked first past row r l d off eg =
+  missed_picked first past row r l d off eg =
       picked_none (RowsFrom state first past) (ended_in work slack base p) p j t r eg off
       (λ e m x a h. d.none m x a.1 (omega (arith, a.2)) (subst (λ (k : ℕ). Tells (ended_in work slack base p) p j t k m x) a.0 h))
 
@@ -130,19 +130,19 @@ module _ (f : ℕ → ℕ → ℕ → ℕ → ℕ) (p : Plan) (n j t : ℕ) (r :
 -- ---- where a step leads
 
 module _ (work : List ℕ) (base : ℕ) (p : Plan) (state row past j t : ℕ) (r : Stand) (same : r.gaps ≡ j) where
-  looked-none :
+  looked_none :
       p.across ≤ r.pixel → ((x : ℕ) → x + 1 ≡ past → Tells (stored_at work base p) p j t state row x → ⊥) →
       Picked (JustBefore state row past) (stored_at work base p) p j t r
-  looked-none off none =
+  looked_none off none =
       picked_none (JustBefore state row past) (stored_at work base p) p j t r same off (λ e m x a h. none x a.2 (rw (a.0, a.1) at h))
 
   -- the row does not have it
   module _ (lo hi : ℕ) (is-lo : lo ≡ row_lo p state row) (is-hi : hi ≡ row_hi p state row) where
-    pub looked-under : p.across ≤ r.pixel → past ≤ lo → Picked (JustBefore state row past) (stored_at work base p) p j t r
-    looked-under off l = looked-none off (λ x e h. omega (arith, h.low))
+    pub looked_under : p.across ≤ r.pixel → past ≤ lo → Picked (JustBefore state row past) (stored_at work base p) p j t r
+    looked_under off l = looked_none off (λ x e h. omega (arith, h.low))
 
-    pub looked-over : p.across ≤ r.pixel → hi < past → Picked (JustBefore state row past) (stored_at work base p) p j t r
-    looked-over off l = looked-none off (λ x e h. omega (arith, h.high))
+    pub looked_over : p.across ≤ r.pixel → hi < past → Picked (JustBefore state row past) (stored_at work base p) p j t r
+    looked_over off l = looked_none off (λ x e h. omega (arith, h.high))
 
     -- the number that the code reads
     module _ (at v : ℕ) (is_at : at ≡ base + row * row_size p + j * p.across) (is-v : v ≡ get_or work (at + (past - 1)) 0) (within : lo < past) where
@@ -150,22 +150,22 @@ module _ (work : List ℕ) (base : ℕ) (p : Plan) (state row past j t : ℕ) (r
       number_read x e =
           let there : at + (past - 1) ≡ base + (row * row_size p + (j * p.across + x)) = omega arith in is-v ∙ ap (λ (i : ℕ). get_or work i 0) there
 
-      pub looked-low : p.across ≤ r.pixel → v < t → Picked (JustBefore state row past) (stored_at work base p) p j t r
-      looked-low off low = looked-none off (λ x e h. omega (arith, h.counts, number_read x e))
+      pub looked_low : p.across ≤ r.pixel → v < t → Picked (JustBefore state row past) (stored_at work base p) p j t r
+      looked_low off low = looked_none off (λ x e h. omega (arith, h.counts, number_read x e))
 
-      pub looked-high :
+      pub looked_high :
           r.state ≡ state → r.row ≡ row → r.pixel ≡ past - 1 → row < rows_in p state → past ≤ hi → hi ≤ p.across → t ≤ v →
           Picked (JustBefore state row past) (stored_at work base p) p j t r
-      looked-high es em ex there below wide high =
+      looked_high es em ex there below wide high =
           picked_one (JustBefore state row past) (stored_at work base p) p j t r same (omega arith) (es, em, omega arith)
           (rw (es, em, ex)
           (record { row = there; low = omega arith; high = omega arith; counts = omega (arith, number_read (past - 1) (omega arith)) }))
 
 module _ (f : ℕ → ℕ → ℕ → ℕ → ℕ) (p : Plan) (s : Stand) (y X t older upper : ℕ) (a : older ≡ min 1 y) (b : upper ≡ min 1 (2 - y)) (r : Stand) where
-  pub tap-looked :
+  pub tap_looked :
       older ≤ s.state → upper ≤ s.row → Picked (JustBefore (s.state - older) (s.row - upper) (s.pixel + X)) f p s.gaps t r →
       Picked (TapTo s y X) f p s.gaps t r
-  tap-looked h k d =
+  tap_looked h k d =
       picked_among (JustBefore (s.state - older) (s.row - upper) (s.pixel + X)) (TapTo s y X) f p s.gaps t r
       (λ e m x l o. record { state = omega (arith, o.0); row = omega (arith, o.1); pixel = sym o.2 })
       (λ e m x l o. (omega (arith, o.state), omega (arith, o.row), sym o.pixel)) d
@@ -188,13 +188,13 @@ module _ (f : ℕ → ℕ → ℕ → ℕ → ℕ) (p : Plan) (s : Stand) (j t :
       record { is_gaps = d0.is_gaps; fits = λ k. (inl (d0.fits h).0, (d0.fits h).1); found = λ e m x _ _. h }
 
   module _ (no0 : p.across ≤ r0.pixel) (r1 : Stand) (d1 : Picked (TapTo s p.reach.y1 p.reach.x1) f p j t r1) where
-    pub second-picked : r1.pixel < p.across → Picked (StepTo p s) f p j t r1
-    second-picked h =
+    pub second_picked : r1.pixel < p.across → Picked (StepTo p s) f p j t r1
+    second_picked h =
         record { is_gaps = d1.is_gaps; fits = λ k. (inr (inl (d1.fits h).0), (d1.fits h).1); found = λ e m x _ _. h }
 
-    pub third-picked :
+    pub third_picked :
         p.across ≤ r1.pixel → (r2 : Stand) → Picked (TapTo s p.reach.y2 p.reach.x2) f p j t r2 → Picked (StepTo p s) f p j t r2
-    third-picked no1 r2 d2 =
+    third_picked no1 r2 d2 =
         record {
           is_gaps = d2.is_gaps;
           fits = λ h. (inr (inr (d2.fits h).0), (d2.fits h).1);

@@ -29,20 +29,20 @@ module _ (n : Notes) (rank spare work : ℕ) where
   search_3 a b d = rw (lt-ltb n.steps 65536 a, le-leb n.gaps 8 b, le-ltb spare 65536 d) refl
 
   module _ (few : n.steps < 65536) (gaps : n.gaps ≤ 8) (near : spare < 65536) where
-    pub search-4 : n.steps + spare < rank → false ≡ can_search n rank spare work
+    pub search_4 : n.steps + spare < rank → false ≡ can_search n rank spare work
     unfolding can_search
-    search-4 a =
+    search_4 a =
         rw (lt-ltb n.steps 65536 few, le-leb n.gaps 8 gaps, lt-ltb spare 65536 near, lt-leb rank (n.steps + spare) a) refl
 
-    pub search-5 : rank ≤ n.steps + spare → leb (n.ends + notes_size n) work ≡ false → false ≡ can_search n rank spare work
+    pub search_5 : rank ≤ n.steps + spare → leb (n.ends + notes_size n) work ≡ false → false ≡ can_search n rank spare work
     unfolding can_search
-    search-5 a b =
+    search_5 a b =
         rw (lt-ltb n.steps 65536 few, le-leb n.gaps 8 gaps, lt-ltb spare 65536 near, le-leb rank (n.steps + spare) a, b) refl
 
-    pub search-6 :
+    pub search_6 :
         rank ≤ n.steps + spare → leb (n.ends + notes_size n) work ≡ true → leb (n.goes + notes_size n) work ≡ can_search n rank spare work
     unfolding can_search
-    search-6 a b =
+    search_6 a b =
         rw (lt-ltb n.steps 65536 few, le-leb n.gaps 8 gaps, lt-ltb spare 65536 near, le-leb rank (n.steps + spare) a, b) refl
 
   pub record Search : Type 0 where
@@ -77,5 +77,5 @@ module _ (n : Notes) (rank spare work : ℕ) where
 
   pub search_if : Search → can_search n rank spare work ≡ true
   search_if h =
-      sym (search-6 h.few h.gaps h.near h.standing (le-leb (n.ends + notes_size n) work h.ends))
+      sym (search_6 h.few h.gaps h.near h.standing (le-leb (n.ends + notes_size n) work h.ends))
       ∙ le-leb (n.goes + notes_size n) work h.goes

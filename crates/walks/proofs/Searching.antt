@@ -35,8 +35,8 @@ module _ (terms : ℕ → ℕ) (index l : ℕ) (old : Found) where
           source = ⊎_elim inl (λ f. inr (f.0, f.1, omega (arith, f.2), f.3)) d.source;
         }
 
-    pub row-better : (v : ℕ) → v ≡ terms n → new.key < v → RowSearched terms (n + 1) index l old (record { index = index; key = v; before = l; gaps = n })
-    row-better v e h =
+    pub row_better : (v : ℕ) → v ≡ terms n → new.key < v → RowSearched terms (n + 1) index l old (record { index = index; key = v; before = l; gaps = n })
+    row_better v e h =
         record {
           not_below = omega (arith, d.not_below);
           best = best_more v (omega arith) (omega arith);
@@ -50,10 +50,10 @@ module _ (terms : ℕ → ℕ → ℕ) (steps gaps spare rank index : ℕ) (old 
   searched_none past e =
       record { not_below = omega arith; best = λ l i p h k. absurd (omega (arith, p.ahead)); source = inl refl }
 
-  pub searched-more :
+  pub searched_more :
       (l : ℕ) (mid new : Found) → Possible steps spare rank l → Searched terms steps gaps spare rank index l old mid →
       RowSearched (terms l) (gaps + 1) index l mid new → Searched terms steps gaps spare rank index (l + 1) old new
-  searched-more l mid new possible d row =
+  searched_more l mid new possible d row =
       record {
         not_below = omega (arith, d.not_below, row.not_below);
         best = λ l' i p h k.
@@ -72,9 +72,9 @@ module _ (terms : ℕ → ℕ → ℕ) (steps gaps spare rank index : ℕ) (old 
       }
 
   -- the last row that is possible
-  pub searched-all :
+  pub searched_all :
       (l past : ℕ) (new : Found) → min rank steps < l → Searched terms steps gaps spare rank index l old new → Searched terms steps gaps spare rank index past old new
-  searched-all l past new h d =
+  searched_all l past new h d =
       record {
         not_below = d.not_below;
         best = λ l' i p u k. d.best l' i p (omega (arith, p.of_path, p.behind)) k;

@@ -7,7 +7,7 @@ use lib.ListN.{length}
 use Rattle.plate.specs.Answers.{answered, call_verdict}
 use Rattle.between.specs.Refusals.{first_above}
 use Rattle.between.specs.Lengths.{ReadTo}
-use Rattle.between.proofs.Deciding.{BothPassed, lent, filled, judge_refuses, judge-passes}
+use Rattle.between.proofs.Deciding.{BothPassed, lent, filled, judge_refuses, judge_passes}
 use Rattle.between.proofs.Promised.{promised}
 use Rattle.between.proofs.filter_between.Statement.{statement}
 use Rattle.between.proofs.filter_between.Tie as tie
@@ -17,7 +17,7 @@ judges : (c : tie.After-judge) → let a = c.before.before.before.before.args in
 judges c = rw (c.before.before.common-length.ensures, c.before.common-length2.ensures) at c.judge.ensures
 
 passed : (c : tie.After-enum-told) → let a = c.before.before.before.before.before.before.args in BothPassed a.width a.height a.setting a.lowest.now a.highest.now (length a.low.now) (length a.high.now) (length a.work.now)
-passed c = judge-passes _ _ _ _ _ _ _ _ (sym (ap answered c.enum_told.given.1) ∙ judges c.before.before)
+passed c = judge_passes _ _ _ _ _ _ _ _ (sym (ap answered c.enum_told.given.1) ∙ judges c.before.before)
 
 -- a refusal, after what it has left: an engine that has stored something before it refuses fails there first
 leaving : {A B : Type 0} → B → A → A × B

@@ -6,7 +6,7 @@ use mathlib.Core.Path.{◌≡◌, sym, ap, ◌∙◌}
 use mathlib.Core.List.{◌++◌}
 use Rattle.plate.specs.Refusals.{Verdict.accepted}
 use Rattle.plate.specs.Answers.{answered}
-use Rattle.theory.proofs.Mirror.{filtered-length}
+use Rattle.theory.proofs.Mirror.{filtered_length}
 use Rattle.survey_text.specs.Survey.{Survey, filtered_plate}
 use Rattle.survey_text.proofs.Verdicts.{done_result}
 use Rattle.survey_text.specs.Printing.{out_text}
@@ -59,7 +59,7 @@ plate_is f = take_at f.filter.new.1.1.1.1.0 _ _ (after_long f) ∙ f.filter.ensu
 fitted : (b : tie.Start) → Fitting b.args.head.width b.args.head.height (length (filtered_plate (of b)))
 fitted b = let h = b.args.head in
     let r = b.requires.0.fitting in
-    record { good = r.good; small = r.small; whole = filtered-length h.setting h.width h.height b.args.levels.now }
+    record { good = r.good; small = r.small; whole = filtered_length h.setting h.width h.height b.args.levels.now }
 
 shorts : (b : tie.Start) → length (out_text b.args.head.width b.args.head.height (filtered_plate (of b))) ≤ max_out
 shorts b = plate_short _ _ _ (fitted b) (filtered_bits _ _ _ _ b.requires.0.levels)

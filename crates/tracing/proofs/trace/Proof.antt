@@ -5,7 +5,7 @@ use borrow.Author.Rules.{rules}
 use lib.ListN.{length}
 use Rattle.plate.specs.Refusals.{Clear, trace_checks}
 use Rattle.plate.specs.Answers.{answered}
-use Rattle.tracing.proofs.Refusing.{let_pass, has-direction, trace_refused, trace_accepted}
+use Rattle.tracing.proofs.Refusing.{let_pass, has_direction, trace_refused, trace_accepted}
 use Rattle.tracing.proofs.trace.Statement.{statement}
 use Rattle.tracing.proofs.trace.Tie as tie
 
@@ -33,7 +33,7 @@ find_and_draw_requires : tie.Need-find-and-draw-requires
 find_and_draw_requires c κs =
     let t = c.before.before.before in
     let u = c.before.before.first-usable in
-    (clear t, (has-direction _ _ _ _ _ _ _ (clear t) u.result u.ensures, u.ensures))
+    (clear t, (has_direction _ _ _ _ _ _ _ (clear t) u.result u.ensures, u.ensures))
 
 same_length : tie.Need-same-length
 same_length c = search rules

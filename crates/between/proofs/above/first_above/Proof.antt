@@ -4,7 +4,7 @@ use mathlib.Core.Bool.{true, false}
 use native.Mathlib.Omega.{arith}
 use lib.ListN.{length}
 use Rattle.between.specs.Lengths.{ReadTo}
-use Rattle.between.proofs.Scanning.{PassedTo, none_passed, one_passed, found, all_passed, none_read, compared, one-read}
+use Rattle.between.proofs.Scanning.{PassedTo, none_passed, one_passed, found, all_passed, none_read, compared, one_read}
 use Rattle.between.proofs.above.first_above.Statement.{statement}
 use Rattle.between.proofs.above.first_above.Tie as tie
 
@@ -49,7 +49,7 @@ loop_again c =
     let low = c.before.if13.given in
     let high = c.before.before.if12.given in
     let test = compared a.lowest.now a.highest.now l.x low high (omega arith) (omega arith) false c.if1.false in
-    (omega arith, one_passed a.lowest.now a.highest.now l.x (omega arith) test l.invariant.1, one-read a.lowest.now a.highest.now l.x low high (omega arith) (omega arith) l.invariant.2)
+    (omega arith, one_passed a.lowest.now a.highest.now l.x (omega arith) test l.invariant.1, one_read a.lowest.now a.highest.now l.x low high (omega arith) (omega arith) l.invariant.2)
 
 returns_2 : tie.Need-returns-2 invariant_loop decreases_loop
 returns_2 c = (all_passed _ _ _ (omega arith) c.before.loop.invariant.1, c.before.loop.invariant.2)

@@ -3,7 +3,7 @@ use Prim.Native.Nat.{◌≤◌}
 use mathlib.Core.Path.{◌≡◌}
 use lib.ListN.{length, length-map}
 use borrow.Author.Rules.{rules}
-use Rattle.book.proofs.Deciding.{entry_overfull, entry-full, entry-spent, entry_done}
+use Rattle.book.proofs.Deciding.{entry_overfull, entry_full, entry_spent, entry_done}
 use Rattle.book.proofs.Book.judge.Statement.{statement}
 use Rattle.book.proofs.Book.judge.Tie as tie
 
@@ -28,12 +28,12 @@ module _ (c : tie.After-without) where
 returns_2 : tie.Need-returns-2
 returns_2 c =
     let w = c.before.before in
-    entry-full (start w).args.self (few w) (full (start w)) (start w).args.key w.without.result w.without.ensures c.if2.true
+    entry_full (start w).args.self (few w) (full (start w)) (start w).args.key w.without.result w.without.ensures c.if2.true
 
 returns_3 : tie.Need-returns-3
 returns_3 c =
     let w = c.before.before.before.before in
-    entry-spent (start w).args.self (few w) (full (start w)) (start w).args.key w.without.result w.without.ensures c.before.before.if2.false c.if3.true
+    entry_spent (start w).args.self (few w) (full (start w)) (start w).args.key w.without.result w.without.ensures c.before.before.if2.false c.if3.true
 
 returns_4 : tie.Need-returns-4
 returns_4 c =

@@ -2,7 +2,7 @@
 use mathlib.Core.Path.{◌≡◌, ◌∙◌}
 use lib.ListN.{length, length-map}
 use borrow.Author.Rules.{rules}
-use Rattle.book.proofs.Deciding.{withdraw_overfull, withdraw-none, withdraw-done}
+use Rattle.book.proofs.Deciding.{withdraw_overfull, withdraw_none, withdraw_done}
 use Rattle.book.proofs.Book.withdraw.Statement.{statement}
 use Rattle.book.proofs.Book.withdraw.Tie as tie
 
@@ -28,13 +28,13 @@ returns_2 : tie.Need-returns-2
 returns_2 c =
     let w = c.before.before.before.before in
     let s = w.before.before.before in
-    c.refused2.ensures ∙ withdraw-none s.args.self w.before.if1.false (full s) s.args.serial w.without.result w.without.ensures c.before.if2.true
+    c.refused2.ensures ∙ withdraw_none s.args.self w.before.if1.false (full s) s.args.serial w.without.result w.without.ensures c.before.if2.true
 
 returns_3 : tie.Need-returns-3
 returns_3 c =
     let w = c.before.before.before in
     let s = w.before.before.before in
-    withdraw-done s.args.self w.before.if1.false (full s) s.args.serial w.without.result w.without.ensures c.if2.false
+    withdraw_done s.args.self w.before.if1.false (full s) s.args.serial w.without.result w.without.ensures c.if2.false
 
 pub withdraw_spec : {M : Type 1} → statement M
 withdraw_spec =

@@ -32,8 +32,8 @@ frame_of_requires c κs = search rules
 by_rows_requires : tie.Need-by-rows-requires
 by_rows_requires c κs = search rules
 
-add-filter_plan : tie.Need-overflow-add-filter-plan
-add-filter_plan c = omega (arith, (openable _ _ _ _ _ _ _ c.before.before.before.before.requires).fitting.few_gaps)
+add_filter_plan : tie.Need-overflow-add-filter-plan
+add_filter_plan c = omega (arith, (openable _ _ _ _ _ _ _ c.before.before.before.before.requires).fitting.few_gaps)
 
 filter_plan_requires : tie.Need-filter-plan-requires
 filter_plan_requires c κs =
@@ -91,7 +91,7 @@ raise_all_spec =
     (tie.spec
     frame_of_requires
     by_rows_requires
-    add-filter_plan
+    add_filter_plan
     filter_plan_requires
     reach_of_requires
     fill_keys_requires

@@ -1,7 +1,7 @@
 -- `spot_of` meets its contract: the lines are rows or columns of the plate, and the row and the column of a place are its two digits.
 use mathlib.Core.Path.{sym, ◌∙◌}
 use borrow.Author.Rules.{rules}
-use Rattle.directions.proofs.TraceLaws.{some_columns, row_on, column-on, line_on, pixel_on, spot_by_rows, spot_by_columns}
+use Rattle.directions.proofs.TraceLaws.{some_columns, row_on, column_on, line_on, pixel_on, spot_by_rows, spot_by_columns}
 use Rattle.directions.proofs.TableLaws.{frame_told}
 use Rattle.directions.proofs.frame.spot_of.Statement.{statement}
 use Rattle.directions.proofs.frame.spot_of.Tie as tie
@@ -24,7 +24,7 @@ counted_from_requires_2 : tie.Need-counted-from-requires-2
 counted_from_requires_2 c κs =
     let b = c.before.before in
     let p = b.before.requires in
-    column-on _ _ _ _ _ (frame_told _ _ p.0 _ _ p.1 p.2).1 p.3 (sym b.along_rows.ensures ∙ c.before.if1.true)
+    column_on _ _ _ _ _ (frame_told _ _ p.0 _ _ p.1 p.2).1 p.3 (sym b.along_rows.ensures ∙ c.before.if1.true)
 
 returns : tie.Need-returns
 returns c =

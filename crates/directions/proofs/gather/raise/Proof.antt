@@ -4,7 +4,7 @@ use mathlib.Core.Path.{◌≡◌, refl, ◌∙◌}
 use native.Mathlib.Omega.{arith}
 use Rattle.directions.specs.Gathering.{Risen}
 use Rattle.directions.proofs.KeyRows.{row_ends, next_row, last_row}
-use Rattle.directions.proofs.RisenLaws.{risen_none, risen-join, risen_ends}
+use Rattle.directions.proofs.RisenLaws.{risen_none, risen_join, risen_ends}
 use Rattle.directions.proofs.gather.raise.Statement.{statement}
 use Rattle.directions.proofs.gather.raise.Tie as tie
 
@@ -42,7 +42,7 @@ loop_again c =
     let l = c.before.before.before.before.before.before.loop in (
       omega (arith, c.before.before.before.before.if1.true),
       next_row _ _ _ l.invariant.1,
-      risen-join _ _ _ _ _ _ _ _ _ _ l.invariant.2 c.before.before.raise-row.ensures (omega arith) (omega arith) refl,
+      risen_join _ _ _ _ _ _ _ _ _ _ l.invariant.2 c.before.before.raise-row.ensures (omega arith) (omega arith) refl,
     )
 
 same_length : tie.Need-same-length invariant_loop decreases_loop

@@ -4,7 +4,7 @@ use mathlib.Core.Path.{◌∙◌}
 use native.Mathlib.Omega.{arith}
 use Rattle.directions.specs.Gathering.{Risen}
 use Rattle.directions.proofs.KeyRows.{pixel_within, place_on, place_found}
-use Rattle.directions.proofs.RisenLaws.{raised_level, risen_none, risen-more, risen_ends}
+use Rattle.directions.proofs.RisenLaws.{raised_level, risen_none, risen_more, risen_ends}
 use Rattle.directions.proofs.gather.raise_row.Statement.{statement}
 use Rattle.directions.proofs.gather.raise_row.Tie as tie
 
@@ -86,7 +86,7 @@ loop_again c =
     let on = place_on _ _ _ _ _ _ s.requires.0 line.1 taken at (l.invariant.1.len ∙ s.requires.1.3) in
     let found = place_found a.frame a.ranked a.row l.x a.at taken s.requires.1.1 _ _ line.0 at in
     let level = raised_level l.res _ c.raised.result _ c.raised.type-inv c.before.before.raised-arg.given on c.raised.ensures in
-    (omega (arith, taken), risen-more _ _ _ _ l.res _ _ _ _ l.invariant.1 (omega arith) found on level _ (omega arith))
+    (omega (arith, taken), risen_more _ _ _ _ l.res _ _ _ _ l.invariant.1 (omega arith) found on level _ (omega arith))
 
 same_length : tie.Need-same-length invariant_loop decreases_loop
 same_length c = c.before.before.loop.invariant.1.len

@@ -6,7 +6,7 @@ use Rattle.frames.proofs.KeyLaws.{level_read}
 use Rattle.states.specs.Runs.{Between}
 use Rattle.directions.specs.Numbers.{place_kept, keys_by, SmallKept}
 use Rattle.states.proofs.RunLaws.{between_none, between_more, between_ends}
-use Rattle.directions.proofs.KeyRows.{pixel_within, place_on, place_found, key_found, small_none, small-more, small_ends}
+use Rattle.directions.proofs.KeyRows.{pixel_within, place_on, place_found, key_found, small_none, small_more, small_ends}
 use Rattle.directions.proofs.keys.fill_key_row.Statement.{statement}
 use Rattle.directions.proofs.keys.fill_key_row.Tie as tie
 
@@ -81,7 +81,7 @@ loop_again c =
     let there = place_found a.frame a.ranked a.row l.x a.at taken s.requires.1.1 _ _ line.0 at in (
       omega (arith, taken),
       between_more _ _ _ _ _ _ _ l.invariant.1 (omega arith) within found (omega arith),
-      small-more _ _ _ _ _ _ _ l.invariant.2 there c.before.key-by-arg.given on (omega arith),
+      small_more _ _ _ _ _ _ _ l.invariant.2 there c.before.key-by-arg.given on (omega arith),
     )
 
 same_length : tie.Need-same-length invariant_loop decreases_loop

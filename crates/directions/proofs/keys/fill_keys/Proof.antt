@@ -5,7 +5,7 @@ use native.Mathlib.Omega.{arith}
 use Rattle.states.specs.Runs.{Between}
 use Rattle.directions.specs.Numbers.{place_kept, keys_by, SmallKept}
 use Rattle.states.proofs.RunLaws.{between_none, between_ends}
-use Rattle.directions.proofs.KeyRows.{row_ends, next_row, last_row, kept_join, small_none, small-join, small_ends}
+use Rattle.directions.proofs.KeyRows.{row_ends, next_row, last_row, kept_join, small_none, small_join, small_ends}
 use Rattle.directions.proofs.keys.fill_keys.Statement.{statement}
 use Rattle.directions.proofs.keys.fill_keys.Tie as tie
 
@@ -47,7 +47,7 @@ loop_again c =
       omega (arith, c.before.before.before.before.before.if1.true),
       next_row _ _ _ l.invariant.1,
       kept_join _ _ _ _ _ _ _ _ l.invariant.2 c.before.before.before.fill-key-row.ensures.0 (omega arith) (omega arith) refl,
-      small-join _ _ _ _ _ _ _ l.invariant.3 c.before.before.before.fill-key-row.ensures.1 refl,
+      small_join _ _ _ _ _ _ _ l.invariant.3 c.before.before.before.fill-key-row.ensures.1 refl,
     )
 
 same_length : tie.Need-same-length invariant_loop decreases_loop

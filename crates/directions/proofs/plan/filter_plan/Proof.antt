@@ -2,7 +2,7 @@
 use mathlib.Core.Path.{sym, ◌∙◌}
 use borrow.Author.Rules.{rules}
 use borrow.Author.Tests.{not-true, not-false}
-use Rattle.directions.proofs.ChoiceLaws.{whole_area_lem, plan-straight, plan-ranked, plan-still}
+use Rattle.directions.proofs.ChoiceLaws.{whole_area_lem, plan_straight, plan_ranked, plan_still}
 use Rattle.directions.proofs.plan.filter_plan.Statement.{statement}
 use Rattle.directions.proofs.plan.filter_plan.Tie as tie
 
@@ -15,7 +15,7 @@ straight_plan_requires c κs =
 
 returns : tie.Need-returns
 returns c =
-    rw (← c.before.before.before.gap-end.ensures) (c.straight-plan.ensures ∙ plan-straight _ _ _ _ _ _ (not-true _ c.before.if1.true))
+    rw (← c.before.before.before.gap-end.ensures) (c.straight-plan.ensures ∙ plan_straight _ _ _ _ _ _ (not-true _ c.before.if1.true))
 
 by_ranks_requires : tie.Need-by-ranks-requires
 by_ranks_requires c κs = search rules
@@ -41,7 +41,7 @@ returns_2 c =
     let b = c.before.before.before in
     let by-ranks = sym b.by-ranks.ensures ∙ c.before.before.if2.true in
     rw (← b.before.before.before.gap-end.ensures)
-    (c.ranked-plan.ensures ∙ plan-ranked _ _ _ _ _ _ (not-false _ b.before.if1.false) _ c.before.Spare-of.ensures.0 by-ranks)
+    (c.ranked-plan.ensures ∙ plan_ranked _ _ _ _ _ _ (not-false _ b.before.if1.false) _ c.before.Spare-of.ensures.0 by-ranks)
 
 still_plan_requires : tie.Need-still-plan-requires
 still_plan_requires c κs =
@@ -51,7 +51,7 @@ returns_3 : tie.Need-returns-3
 returns_3 c =
     let b = c.before.before in
     rw (← b.before.before.before.gap-end.ensures)
-    (c.still-plan.ensures ∙ plan-still _ _ _ _ _ _ (not-false _ b.before.if1.false) (sym b.by-ranks.ensures ∙ c.before.if2.false))
+    (c.still-plan.ensures ∙ plan_still _ _ _ _ _ _ (not-false _ b.before.if1.false) (sym b.by-ranks.ensures ∙ c.before.if2.false))
 
 pub filter_plan_spec : {M : Type 1} → statement M
 filter_plan_spec =

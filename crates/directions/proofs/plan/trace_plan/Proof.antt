@@ -3,7 +3,7 @@ use mathlib.Core.Path.{◌∙◌}
 use native.Mathlib.Omega.{arith}
 use borrow.Author.Rules.{rules}
 use Rattle.directions.specs.Plans.{AreaOf}
-use Rattle.directions.proofs.TraceLaws.{side_area, trace_ranked, trace-straight}
+use Rattle.directions.proofs.TraceLaws.{side_area, trace_ranked, trace_straight}
 use Rattle.directions.proofs.plan.trace_plan.Statement.{statement}
 use Rattle.directions.proofs.plan.trace_plan.Tie as tie
 use Rattle.directions.proofs.plan.trace_plan.Reads as reads
@@ -72,7 +72,7 @@ straight_plan_requires c κs =
 returns_2 : tie.Need-returns-2
 returns_2 c =
     c.straight-plan.ensures ∙
-    trace-straight _ _ _ _ c.before.before.before.before.trace-area.ensures _ _ c.before.before.before.if1.false c.before.least2.ensures _ _
+    trace_straight _ _ _ _ c.before.before.before.before.trace-area.ensures _ _ c.before.before.before.if1.false c.before.least2.ensures _ _
 
 pub trace_plan_spec : {M : Type 1} → statement M
 trace_plan_spec =

@@ -3,7 +3,7 @@ use native.Mathlib.Omega.{arith}
 use borrow.Author.Tests.{not-true, not-false}
 use borrow.Author.Rules.{rules}
 use Rattle.directions.specs.Plans.{AreaOf}
-use Rattle.directions.proofs.TraceLaws.{side_area, states-ranked, states_straight}
+use Rattle.directions.proofs.TraceLaws.{side_area, states_ranked, states_straight}
 use Rattle.directions.proofs.plan.trace_states.Statement.{statement}
 use Rattle.directions.proofs.plan.trace_states.Tie as tie
 use Rattle.directions.proofs.plan.trace_states.Reads as reads
@@ -46,7 +46,7 @@ least_requires : tie.Need-least-requires
 least_requires c κs = search rules
 
 returns_2 : tie.Need-returns-2
-returns_2 c = states-ranked _ _ _ _ c.before.before.before.trace-area.ensures _ _ (not-false _ c.before.before.before.before.if1.false) c.least.ensures
+returns_2 c = states_ranked _ _ _ _ c.before.before.before.trace-area.ensures _ _ (not-false _ c.before.before.before.before.if1.false) c.least.ensures
 
 pub trace_states_spec : {M : Type 1} → statement M
 trace_states_spec =

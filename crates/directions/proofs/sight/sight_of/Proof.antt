@@ -5,7 +5,7 @@ use borrow.Author.Tests.{not-true, not-false}
 use Rattle.directions.proofs.DoorLaws.{fitting}
 use Rattle.directions.proofs.TableLaws.{frame_told}
 use Rattle.directions.proofs.OpeningLaws.{oriented}
-use Rattle.directions.proofs.SightLaws.{not_opposite, spot_told, sight_unfit, sight-off, sight-some}
+use Rattle.directions.proofs.SightLaws.{not_opposite, spot_told, sight_unfit, sight_off, sight_some}
 use borrow.Author.Rules.{rules}
 use Rattle.directions.proofs.sight.sight_of.Statement.{statement}
 use Rattle.directions.proofs.sight.sight_of.Tie as tie
@@ -27,7 +27,7 @@ no_sight_requires_2 c κs = search rules
 
 returns_2 : tie.Need-returns-2
 returns_2 c =
-    sight-off _ _ _ _ _ _ (sym c.before.before.before.fits-plate.ensures ∙ not-false _ c.before.before.if1.false) c.before.if2.true _ c.no-sight2.ensures
+    sight_off _ _ _ _ _ _ (sym c.before.before.before.fits-plate.ensures ∙ not-false _ c.before.before.if1.false) c.before.if2.true _ c.no-sight2.ensures
 
 frame_of_requires : tie.Need-frame-of-requires
 frame_of_requires c κs = search rules
@@ -63,7 +63,7 @@ trace_states_requires c κs =
 returns_3 : tie.Need-returns-3
 returns_3 c =
     let a = c.before.before.before.before.before.before.before.before.before.args in
-    sight-some a.width a.height a.setting a.index a.backwards a.at (sym c.before.before.before.before.before.before.before.before.fits-plate.ensures ∙ not-false _ c.before.before.before.before.before.before.before.if1.false) c.before.before.before.before.before.before.if2.false _ _ _ _ _ _
+    sight_some a.width a.height a.setting a.index a.backwards a.at (sym c.before.before.before.before.before.before.before.before.fits-plate.ensures ∙ not-false _ c.before.before.before.before.before.before.before.if1.false) c.before.before.before.before.before.before.if2.false _ _ _ _ _ _
     c.before.before.before.before.before.frame-of.ensures c.before.before.before.before.along_rows.ensures c.before.before.before.spot_of_lem.ensures (not_opposite a.backwards) c.before.trace-plan.ensures c.trace-states.ensures
 
 pub sight_of_spec : {M : Type 1} → statement M

@@ -5,7 +5,7 @@ use mathlib.Core.Path.{◌≡◌, refl, sym, ◌∙◌}
 use native.Mathlib.Omega.{arith}
 use lib.ListN.{length}
 use Rattle.directions.specs.Gathering.{Raised}
-use Rattle.engine.proofs.SweepLaws.{bestBefore, before_none, before_more, gathered_all, gathered_early, bit_doubled, bit_below, accepted_still}
+use Rattle.engine.proofs.SweepLaws.{best_before, before_none, before_more, gathered_all, gathered_early, bit_doubled, bit_below, accepted_still}
 use Rattle.engine.proofs.sweep.open_chosen.Statement.{statement}
 use Rattle.engine.proofs.sweep.open_chosen.Tie as tie
 
@@ -15,7 +15,7 @@ invariant_loop result₀ work₀ plate width height setting index₀ bit₀ resu
     × (bit ≡ 2 ^ index)
     × (length result ≡ length result₀)
     × (length work ≡ length work₀)
-    × Raised (bestBefore width height setting plate index) result₀ result 0 (width * height)
+    × Raised (best_before width height setting plate index) result₀ result 0 (width * height)
 
 abbrev decreases_loop : tie.decreases-loop
 decreases_loop result₀ work₀ plate width height setting index₀ bit₀ result work index bit = 4 - index

@@ -4,7 +4,7 @@ use native.Mathlib.Omega.{arith}
 use mathlib.Core.Path.{sym, refl, ◌∙◌}
 use borrow.Author.Tests.{not-true, not-false}
 use Rattle.headings.proofs.Ahead.{heading_known}
-use Rattle.headings.proofs.DoorTests.{stand_facts, inside_facts, goes_1, goes-2, goes-3, goes-4}
+use Rattle.headings.proofs.DoorTests.{stand_facts, inside_facts, goes_1, goes_2, goes_3, goes_4}
 use Rattle.headings.proofs.doors.follow_any.Statement.{statement}
 use Rattle.headings.proofs.doors.follow_any.Tie as tie
 
@@ -24,7 +24,7 @@ stands_on_requires : tie.Need-stands-on-requires
 stands_on_requires c κs = search rules
 
 returns_2 : tie.Need-returns-2
-returns_2 c = (goes-2 _ _ _ _ _ _ _ (sym c.before.before.before.before.is-inside.ensures ∙ not-false _ c.before.before.before.if1.false) (sym c.before.Stands-on.ensures ∙ not-true _ c.if2.true), refl)
+returns_2 c = (goes_2 _ _ _ _ _ _ _ (sym c.before.before.before.before.is-inside.ensures ∙ not-false _ c.before.before.before.if1.false) (sym c.before.Stands-on.ensures ∙ not-true _ c.if2.true), refl)
 
 span_of_requires : tie.Need-span-of-requires
 span_of_requires c κs = search rules
@@ -35,7 +35,7 @@ room_of_requires c κs =
     (heading_known _ _ _ _ _ s.size s.known c.Span-of.ensures, s.on)
 
 returns_3 : tie.Need-returns-3
-returns_3 c = (goes-3 _ _ _ _ _ _ _ (sym c.before.before.before.before.before.before.before.is-inside.ensures ∙ not-false _ c.before.before.before.before.before.before.if1.false) (sym c.before.before.before.before.Stands-on.ensures ∙ not-false _ c.before.before.before.if2.false) _ c.before.room_of.ensures c.if3.true, refl)
+returns_3 c = (goes_3 _ _ _ _ _ _ _ (sym c.before.before.before.before.before.before.before.is-inside.ensures ∙ not-false _ c.before.before.before.before.before.before.if1.false) (sym c.before.before.before.before.Stands-on.ensures ∙ not-false _ c.before.before.before.if2.false) _ c.before.room_of.ensures c.if3.true, refl)
 
 follow_any_requires : tie.Need-follow-any-requires
 follow_any_requires c κs =
@@ -48,7 +48,7 @@ same_length : tie.Need-same-length
 same_length c = search rules
 
 returns_4 : tie.Need-returns-4
-returns_4 c = (goes-4 _ _ _ _ _ _ _ (sym c.before.before.before.before.before.before.before.before.before.before.before.is-inside.ensures ∙ not-false _ c.before.before.before.before.before.before.before.before.before.before.if1.false) (sym c.before.before.before.before.before.before.before.before.Stands-on.ensures ∙ not-false _ c.before.before.before.before.before.before.before.if2.false) _ c.before.before.before.before.before.room_of.ensures c.before.before.before.before.if3.false, c.before.before.follow-any.ensures)
+returns_4 c = (goes_4 _ _ _ _ _ _ _ (sym c.before.before.before.before.before.before.before.before.before.before.before.is-inside.ensures ∙ not-false _ c.before.before.before.before.before.before.before.before.before.before.if1.false) (sym c.before.before.before.before.before.before.before.before.Stands-on.ensures ∙ not-false _ c.before.before.before.before.before.before.before.if2.false) _ c.before.before.before.before.before.room_of.ensures c.before.before.before.before.if3.false, c.before.before.follow-any.ensures)
 
 pub follow_any_spec : {M : Type 1} → statement M
 follow_any_spec = tie.close (tie.spec is_inside_requires returns mul_place slice_read_place stands_on_requires returns_2 span_of_requires room_of_requires returns_3 follow_any_requires same_length returns_4)

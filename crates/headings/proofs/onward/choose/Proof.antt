@@ -5,7 +5,7 @@ use mathlib.Core.Logic.{⊎_elim}
 use native.Mathlib.Omega.{arith}
 use borrow.Author.Rules.{rules}
 use Rattle.basics.proofs.Numbers.{rows_fit}
-use Rattle.headings.proofs.Neighbours.{Tried, tried_none, tried_more, left-misses, narrow-misses, roomy-chosen, none_chosen}
+use Rattle.headings.proofs.Neighbours.{Tried, tried_none, tried_more, left_misses, narrow_misses, roomy_chosen, none_chosen}
 use Rattle.headings.proofs.onward.choose.Statement.{statement}
 use Rattle.headings.proofs.onward.choose.Tie as tie
 
@@ -33,7 +33,7 @@ returns : tie.Need-returns invariant_loop decreases_loop
 returns c =
     let s = c.before.before.before.before.before.before.before in
     let a = s.args in
-    roomy-chosen a.heading a.p a.m s.requires.0 c.before.before.before.before.before.loop.number c.before.before.before.neighbour.result c.before.before.before.neighbour.ensures c.before.room_of.result c.before.room_of.ensures
+    roomy_chosen a.heading a.p a.m s.requires.0 c.before.before.before.before.before.loop.number c.before.before.before.neighbour.result c.before.before.before.neighbour.ensures c.before.room_of.result c.before.room_of.ensures
     c.before.before.before.before.loop-test.true c.before.before.if1.true c.if2.true
 
 add_number : tie.Need-overflow-add-number invariant_loop decreases_loop
@@ -51,9 +51,9 @@ loop_again c =
       omega arith,
       ⊎_elim
           (λ w. tried_more a.heading a.p a.m l.number _ refl l.invariant.1
-          (narrow-misses a.heading a.p a.m s.requires.0 l.number q.result q.ensures w.1.result w.1.ensures w.2.left))
+          (narrow_misses a.heading a.p a.m s.requires.0 l.number q.result q.ensures w.1.result w.1.ensures w.2.left))
           (λ w. tried_more a.heading a.p a.m l.number _ refl l.invariant.1
-          (left-misses a.heading a.p a.m s.requires.0 l.number q.result q.ensures w.left))
+          (left_misses a.heading a.p a.m s.requires.0 l.number q.result q.ensures w.left))
           c.if1.branch,
     )
 

@@ -6,7 +6,7 @@ use lib.ListN.{length}
 use Rattle.headings.specs.Headings.{bit_of}
 use Rattle.headings.specs.Trails.{Within, Trail, index_after}
 use Rattle.headings.proofs.Trails.{index_within, within_less, within_few, index_there}
-use Rattle.headings.proofs.Ahead.{OnTrail, trail-starts, trail-goes-on}
+use Rattle.headings.proofs.Ahead.{OnTrail, trail_starts, trail_goes_on}
 use Rattle.headings.proofs.onward.follow_any.Statement.{statement}
 use Rattle.headings.proofs.onward.follow_any.Tie as tie
 
@@ -25,7 +25,7 @@ slice_read_place c = c.before.before.requires.1.0.1
 loop_holds : tie.Need-loop-init invariant_loop decreases_loop
 loop_holds c =
     let s = c.before.before in
-    trail-starts s.args.heading s.args.path.now s.args.start s.args.steps s.requires.1.1.1.0 s.requires.1.1.1.1
+    trail_starts s.args.heading s.args.path.now s.args.start s.args.steps s.requires.1.1.1.0 s.requires.1.1.1.1
 
 add_n : tie.Need-overflow-add-n invariant_loop decreases_loop
 add_n c = omega (arith, c.loop-test.true)
@@ -77,7 +77,7 @@ loop_again c =
     let s = start c in
     let a = s.args in
     let l = c.before.before.before.loop in
-    trail-goes-on a.heading a.path.now a.start a.steps s.pre.0 l.path l.place l.n l.invariant c.before.before.loop-test.true
+    trail_goes_on a.heading a.path.now a.start a.steps s.pre.0 l.path l.place l.n l.invariant c.before.before.loop-test.true
     c.before.choose.result c.before.choose.ensures c.index-after.result (is_index c) s.pre.1.1.0
 
 same_length : tie.Need-same-length invariant_loop decreases_loop

@@ -1,6 +1,6 @@
 -- `is_usable` meets its contract: the three tests in a row.
 use borrow.Author.Rules.{rules}
-use Rattle.headings.proofs.Directions.{not_listed, not_chosen, chosen-long}
+use Rattle.headings.proofs.Directions.{not_listed, not_chosen, chosen_long}
 use Rattle.headings.proofs.usable.is_usable.Statement.{statement}
 use Rattle.headings.proofs.usable.is_usable.Tie as tie
 
@@ -21,7 +21,7 @@ span_of_requires c κs = search rules
 
 returns_3 : tie.Need-returns-3
 returns_3 c =
-    chosen-long _ _ _ _ c.before.before.before.before.before.if1.false _ c.before.before.before.before.bit-of.ensures.0
+    chosen_long _ _ _ _ c.before.before.before.before.before.if1.false _ c.before.before.before.before.bit-of.ensures.0
     c.before.before.if2.false _ c.before.Span-of.ensures
 
 pub is_usable_spec : {M : Type 1} → statement M

@@ -7,7 +7,7 @@ use mir.Val.{of_z}
 use Rattle.plate.specs.Refusals.{bad_size}
 use Rattle.plate.specs.Sizes.{GoodSize}
 use Rattle.plate.proofs.Sizes.{good_size}
-use Rattle.plate.proofs.Spans.{no_size, no_direction, span-rows, span-columns, span-diagonal}
+use Rattle.plate.proofs.Spans.{no_size, no_direction, span_rows, span_columns, span_diagonal}
 use borrow.Author.Rules.{rules}
 use Rattle.plate.proofs.span.span_of.Statement.{statement}
 use Rattle.plate.proofs.span.span_of.Tie as tie
@@ -34,7 +34,7 @@ column_change_requires c κs = search rules
 returns_3 : tie.Need-returns-3
 returns_3 c =
     let d = c.before.before in
-    span-rows _ _ _ (not_bad d.before) d.if2.false (ap (of_z w8) (sym c.before.column-change.ensures) ∙ c.if3.true)
+    span_rows _ _ _ (not_bad d.before) d.if2.false (ap (of_z w8) (sym c.before.column-change.ensures) ∙ c.if3.true)
 
 row_change_requires : tie.Need-row-change-requires
 row_change_requires c κs = search rules
@@ -42,7 +42,7 @@ row_change_requires c κs = search rules
 returns_4 : tie.Need-returns-4
 returns_4 c =
     let d = c.before.before.before.before in
-    span-columns _ _ _ (not_bad d.before) d.if2.false (ap (of_z w8) (sym c.before.row-change.ensures) ∙ c.if4.true)
+    span_columns _ _ _ (not_bad d.before) d.if2.false (ap (of_z w8) (sym c.before.row-change.ensures) ∙ c.if4.true)
 
 add_result : tie.Need-overflow-add-result
 add_result c = let g = sized c.before.before.before.before.before in omega (arith, g.narrow, g.low)
@@ -53,7 +53,7 @@ sub_result c = let g = sized c.before.before.before.before.before in omega (arit
 returns_5 : tie.Need-returns-5
 returns_5 c =
     let d = c.before.before.before.before in
-    span-diagonal _ _ _ (not_bad d.before) d.if2.false
+    span_diagonal _ _ _ (not_bad d.before) d.if2.false
     (λ e. c.before.before.if3.false (ap (of_z w8) c.before.before.before.column-change.ensures ∙ e))
     (λ e. c.if4.false (ap (of_z w8) c.before.row-change.ensures ∙ e))
 

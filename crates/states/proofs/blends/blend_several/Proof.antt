@@ -10,7 +10,7 @@ use Rattle.eights.specs.Turned.{turned, numbers}
 use Rattle.eights.proofs.TurnedLaws.{turned_high}
 use Rattle.states.specs.Rows.{Blent, layer_ahead}
 use Rattle.states.proofs.PlaneLaws.{apart_wider, planes_none, planes_ends}
-use Rattle.states.proofs.BlendLaws.{layer-read, layer_none, plane-put, blended_next}
+use Rattle.states.proofs.BlendLaws.{layer_read, layer_none, plane_put, blended_next}
 use Rattle.states.proofs.blends.blend_several.Statement.{statement}
 use Rattle.states.proofs.blends.blend_several.Tie as tie
 
@@ -76,13 +76,13 @@ loop_again c =
     let apart = apart_wider _ _ _ _ (t.to - 1) (t.to - 1 + g.planes * q) own.apart (omega arith) (omega (arith, rows_fit l.j 0 g.planes q (omega arith))) in
     let ahead = c.before.before.before.before.before.before.before.greatest-at in
     let layer : (i : ℕ) → i < 8 → turned (get_or ahead.result i 0) ≡ layer_ahead old q t.t0 t.t1 t.t2 (suc l.j) (x + i)
-    = λ i m. ahead.ensures.is i m ∙ layer-read g.planes q t.t0 t.t1 t.t2 t.to _ f.taps old (numbers l.held) apart l.j x l.o i l.invariant.1 left (omega (arith, f.room)) in (
+    = λ i m. ahead.ensures.is i m ∙ layer_read g.planes q t.t0 t.t1 t.t2 t.to _ f.taps old (numbers l.held) apart l.j x l.o i l.invariant.1 left (omega (arith, f.room)) in (
       omega (arith, left),
       omega (arith, l.invariant.1, add-mul l.j 1 q),
       c.before.before.put-eight.auto.0 ∙ l.invariant.2,
       λ i m. layer i m ∙ ap (λ (n : ℕ). layer_ahead old q t.t0 t.t1 t.t2 n (x + i)) (let e : suc l.j ≡ l.j + 1 = omega arith in e),
       λ keys same.
-          plane-put g.planes q t.t0 t.t1 t.t2 t.to _ f.taps x f.room keys old (numbers l.held) _ _ l.j _ left (l.invariant.4 keys same) c.before.before.put-eight.ensures (omega (arith, l.invariant.1))
+          plane_put g.planes q t.t0 t.t1 t.t2 t.to _ f.taps x f.room keys old (numbers l.held) _ _ l.j _ left (l.invariant.4 keys same) c.before.before.put-eight.ensures (omega (arith, l.invariant.1))
           (λ i m. blended_next old q t.t0 t.t1 t.t2 keys l.j (x + i) _ _ _ _ _ (c.before.before.before.greater.ensures.is i m) (c.before.before.before.before.lower.ensures.is i m) (same i m) (layer i m) (l.invariant.3 i m)),
     )
 

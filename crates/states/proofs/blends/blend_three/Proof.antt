@@ -8,7 +8,7 @@ use Rattle.eights.specs.Turned.{turned, numbers}
 use Rattle.states.specs.Runs.{greatest_at}
 use Rattle.states.specs.Rows.{layer_ahead}
 use Rattle.states.proofs.PlaneLaws.{apart_none, planes_none}
-use Rattle.states.proofs.BlendLaws.{layer-read, plane-put, blended_lowest, blended_next}
+use Rattle.states.proofs.BlendLaws.{layer_read, plane_put, blended_lowest, blended_next}
 use Rattle.states.proofs.blends.blend_three.Statement.{statement}
 use Rattle.states.proofs.blends.blend_three.Tie as tie
 
@@ -88,18 +88,18 @@ returns c keys same =
     let b = c.before.before.before.before.before.before.before.before.before.before.before.before.before.before.before.before.before.before.before.before.before.before.greatest-at2 in
     let d = c.before.before.before.before.before.before.before.before.before.before.before.before.before.before.before.before.before.before.before.before.greatest-at3 in
     let layer : (j o i : ℕ) → o ≡ x + j * q → j < 3 → i < 8 → greatest_at old t.t0 t.t1 t.t2 (o + i) ≡ layer_ahead old q t.t0 t.t1 t.t2 (suc j) (x + i)
-    = λ j o i e l m. layer-read 3 q t.t0 t.t1 t.t2 t.to _ f.taps old old (apart_none _ _ _) j x o i e l (omega (arith, f.room)) in
+    = λ j o i e l m. layer_read 3 q t.t0 t.t1 t.t2 t.to _ f.taps old old (apart_none _ _ _) j x o i e l (omega (arith, f.room)) in
     let la : (i : ℕ) → i < 8 → turned (get_or a.result i 0) ≡ layer_ahead old q t.t0 t.t1 t.t2 1 (x + i)
     = λ i l. a.ensures.is i l ∙ layer 0 x i (omega arith) (omega arith) l in
     let lb : (i : ℕ) → i < 8 → turned (get_or b.result i 0) ≡ layer_ahead old q t.t0 t.t1 t.t2 2 (x + i)
     = λ i l. b.ensures.is i l ∙ layer 1 (x + q) i (omega arith) (omega arith) l in
     let ld : (i : ℕ) → i < 8 → turned (get_or d.result i 0) ≡ layer_ahead old q t.t0 t.t1 t.t2 3 (x + i)
     = λ i l. d.ensures.is i l ∙ layer 2 (x + 2 * q) i (omega arith) (omega arith) l in
-    let first = plane-put 3 q t.t0 t.t1 t.t2 t.to _ f.taps x f.room keys old old _ _ 0 _ (omega arith) (planes_none _ _ old _ q) c.before.before.before.before.before.before.before.before.before.before.before.before.before.before.before.before.put-eight.ensures (omega arith)
+    let first = plane_put 3 q t.t0 t.t1 t.t2 t.to _ f.taps x f.room keys old old _ _ 0 _ (omega arith) (planes_none _ _ old _ q) c.before.before.before.before.before.before.before.before.before.before.before.before.before.before.before.before.put-eight.ensures (omega arith)
     (λ i l. blended_lowest old q t.t0 t.t1 t.t2 keys (x + i) _ _ _ (c.before.before.before.before.before.before.before.before.before.before.before.before.before.before.before.before.before.lower.ensures.is i l) (same i l) (la i l)) in
-    let second = plane-put 3 q t.t0 t.t1 t.t2 t.to _ f.taps x f.room keys old _ _ _ 1 _ (omega arith) first c.before.before.before.before.before.before.before.before.before.put-eight2.ensures (omega arith)
+    let second = plane_put 3 q t.t0 t.t1 t.t2 t.to _ f.taps x f.room keys old _ _ _ 1 _ (omega arith) first c.before.before.before.before.before.before.before.before.before.put-eight2.ensures (omega arith)
     (λ i l. blended_next old q t.t0 t.t1 t.t2 keys 1 (x + i) _ _ _ _ _ (c.before.before.before.before.before.before.before.before.before.before.greater.ensures.is i l) (c.before.before.before.before.before.before.before.before.before.before.before.lower2.ensures.is i l) (same i l) (lb i l) (la i l)) in
-    plane-put 3 q t.t0 t.t1 t.t2 t.to _ f.taps x f.room keys old _ _ _ 2 _ (omega arith) second c.before.before.put-eight3.ensures (omega arith)
+    plane_put 3 q t.t0 t.t1 t.t2 t.to _ f.taps x f.room keys old _ _ _ 2 _ (omega arith) second c.before.before.put-eight3.ensures (omega arith)
     (λ i l. blended_next old q t.t0 t.t1 t.t2 keys 2 (x + i) _ _ _ _ _ (c.before.before.before.greater2.ensures.is i l) (c.before.before.before.before.lower3.ensures.is i l) (same i l) (ld i l) (lb i l))
 
 pub blend_three_spec : {M : Type 1} → statement M

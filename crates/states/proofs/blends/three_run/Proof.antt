@@ -6,7 +6,7 @@ use borrow.Author.Rules.{rules}
 use lib.ListN.{length, get_or}
 use Rattle.eights.specs.Turned.{numbers}
 use Rattle.states.specs.Rows.{Blent}
-use Rattle.states.proofs.BlendLaws.{fits_before, columns_none, columns-more}
+use Rattle.states.proofs.BlendLaws.{fits_before, columns_none, columns_more}
 use Rattle.states.proofs.blends.three_run.Statement.{statement}
 use Rattle.states.proofs.blends.three_run.Tie as tie
 
@@ -54,7 +54,7 @@ loop_again c =
     let key : ℕ → ℕ = λ y. get_or a.keys.now (a.row.at + y) 0 in (
       omega (arith, l.invariant.0),
       c.before.before.blend-three.auto.0 ∙ l.invariant.1,
-      columns-more 3 a.pitch t.t0 t.t1 t.t2 t.to _ f.taps l.x (omega (arith, f.room, inside)) key _ _ _ a.row.lo l.invariant.0 l.invariant.2
+      columns_more 3 a.pitch t.t0 t.t1 t.t2 t.to _ f.taps l.x (omega (arith, f.room, inside)) key _ _ _ a.row.lo l.invariant.0 l.invariant.2
           (c.before.before.blend-three.ensures key (λ i m. c.before.before.before.before.turn-all.ensures.is i m ∙ c.before.before.before.before.before.eight-at.ensures i m ∙ ap (λ (k : ℕ). get_or a.keys.now k 0) (let e : a.row.at + l.x + i ≡ a.row.at + (l.x + i) = omega arith in e))),
     )
 

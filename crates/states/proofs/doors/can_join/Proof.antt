@@ -5,7 +5,7 @@ use mathlib.Core.Bool.{true}
 use native.Mathlib.Omega.{arith}
 use borrow.Author.Tests.{not-true, not-false}
 use Rattle.states.specs.Doors.{can_make, state_fits}
-use Rattle.states.proofs.DoorTests.{Makes, make_facts, keys_few, joins_1, joins_2, joins-3, joins-4, joins-5}
+use Rattle.states.proofs.DoorTests.{Makes, make_facts, keys_few, joins_1, joins_2, joins_3, joins_4, joins_5}
 use Rattle.states.proofs.doors.can_join.Statement.{statement}
 use Rattle.states.proofs.doors.can_join.Tie as tie
 
@@ -38,7 +38,7 @@ state_fits_requires c κs = (made c.before.before.before.before).form
 
 returns_3 : tie.Need-returns-3
 returns_3 c =
-    joins-3 _ _ _ _ _ _ _ (makes c.before.before.before.before.before.before) _ c.before.before.before.before.rows_in.ensures c.before.before.if2.false
+    joins_3 _ _ _ _ _ _ _ (makes c.before.before.before.before.before.before) _ c.before.before.before.before.rows_in.ensures c.before.before.if2.false
     (sym c.before.state-fits.ensures ∙ not-true _ c.if3.true)
 
 state_fits_requires_2 : tie.Need-state-fits-requires-2
@@ -46,7 +46,7 @@ state_fits_requires_2 c κs = (made c.before.before.before.before.before.before)
 
 returns_4 : tie.Need-returns-4
 returns_4 c =
-    joins-4 _ _ _ _ _ _ _ (makes c.before.before.before.before.before.before.before.before) _ c.before.before.before.before.before.before.rows_in.ensures c.before.before.before.before.if2.false (source c.before.before)
+    joins_4 _ _ _ _ _ _ _ (makes c.before.before.before.before.before.before.before.before) _ c.before.before.before.before.before.before.rows_in.ensures c.before.before.before.before.if2.false (source c.before.before)
     (sym c.before.state-fits2.ensures ∙ not-true _ c.if4.true)
 
 mul_result : tie.Need-overflow-mul-result
@@ -54,7 +54,7 @@ mul_result c = omega (arith, keys_few c.before.before.before.before.before.befor
 
 returns_5 : tie.Need-returns-5
 returns_5 c =
-    joins-5 _ _ _ _ _ _ _ (makes c.before.before.before.before.before.before.before.before.before) _ c.before.before.before.before.before.before.before.rows_in.ensures c.before.before.before.before.before.if2.false (source c.before.before.before)
+    joins_5 _ _ _ _ _ _ _ (makes c.before.before.before.before.before.before.before.before.before) _ c.before.before.before.before.before.before.before.rows_in.ensures c.before.before.before.before.before.if2.false (source c.before.before.before)
     (sym c.before.before.state-fits2.ensures ∙ not-false _ c.before.if4.false)
 
 pub can_join_spec : {M : Type 1} → statement M

@@ -5,7 +5,7 @@ use native.Mathlib.Omega.{arith}
 use Rattle.plans.specs.Plans.{pitch_of}
 use Rattle.eights.specs.Turned.{numbers}
 use Rattle.plans.proofs.PlanSizes.{plane_fits}
-use Rattle.states.proofs.JoinLaws.{Joining, joining_none, joining_more, turn-left, turn-fits, some_across, row-joined}
+use Rattle.states.proofs.JoinLaws.{Joining, joining_none, joining_more, turn_left, turn_fits, some_across, row_joined}
 use Rattle.states.proofs.rows.join_row.Statement.{statement}
 use Rattle.states.proofs.rows.join_row.Tie as tie
 
@@ -39,26 +39,26 @@ loop_holds : tie.Need-loop-init invariant_loop decreases_loop
 loop_holds c = joining_none _ _ _ _ _ _ _ _ _ _ _ _ _ refl refl
 
 sub_from : tie.Need-overflow-sub-from invariant_loop decreases_loop
-sub_from c = omega (arith, turn-fits _ _ _ _ _ _ _ _ _ _ _ _ _ _ c.before.before.loop.invariant c.before.loop-test.true)
+sub_from c = omega (arith, turn_fits _ _ _ _ _ _ _ _ _ _ _ _ _ _ c.before.before.loop.invariant c.before.loop-test.true)
 
 add_fold_run : tie.Need-overflow-add-fold-run invariant_loop decreases_loop
 add_fold_run c =
     let s = c.before.before.before.before.before.before.before.before.before.before.before.before in
     let v = c.before.before.before.before.loop.invariant in
-    omega (arith, s.requires, s.well-formed, v.is-from, turn-fits _ _ _ _ _ _ _ _ _ _ _ _ _ _ v c.before.before.before.loop-test.true)
+    omega (arith, s.requires, s.well-formed, v.is_from, turn_fits _ _ _ _ _ _ _ _ _ _ _ _ _ _ v c.before.before.before.loop-test.true)
 
 fold_run_requires : tie.Need-fold-run-requires invariant_loop decreases_loop
 fold_run_requires c κs =
     let s = c.before.before.before.before.before.before.before.before.before.before.before.before in
     let v = c.before.before.before.before.loop.invariant in
-    let t = turn-left _ _ _ _ _ _ _ _ _ _ _ _ _ _ v c.before.before.before.loop-test.true in
+    let t = turn_left _ _ _ _ _ _ _ _ _ _ _ _ _ _ v c.before.before.before.loop-test.true in
     omega (
       arith,
       s.requires,
-      v.is-h,
-      v.is-from,
+      v.is_h,
+      v.is_from,
       v.folded.len,
-      turn-fits _ _ _ _ _ _ _ _ _ _ _ _ _ _ v c.before.before.before.loop-test.true,
+      turn_fits _ _ _ _ _ _ _ _ _ _ _ _ _ _ v c.before.before.before.loop-test.true,
       plane_fits s.args.plan v.turns (omega (arith, t)),
     )
 
@@ -70,14 +70,14 @@ add_h_4 : tie.Need-overflow-add-h-4 invariant_loop decreases_loop
 add_h_4 c =
     let s = c.before.before.before.before.before.before.before.before.before.before.before.before.before.before.before.before in
     let v = c.before.before.before.before.before.before.before.before.loop.invariant in
-    let t = turn-left _ _ _ _ _ _ _ _ _ _ _ _ _ _ v c.before.before.before.before.before.before.before.loop-test.true in
-    omega (arith, s.requires, s.well-formed, v.is-h, plane_fits s.args.plan v.turns (omega (arith, t)))
+    let t = turn_left _ _ _ _ _ _ _ _ _ _ _ _ _ _ v c.before.before.before.before.before.before.before.loop-test.true in
+    omega (arith, s.requires, s.well-formed, v.is_h, plane_fits s.args.plan v.turns (omega (arith, t)))
 
 loop_less : tie.Need-loop-smaller invariant_loop decreases_loop
 loop_less c =
     let v = c.before.before.before.before.before.before.before.before.loop.invariant in
     let t = c.before.before.before.before.before.before.before.loop-test.true in
-    omega (arith, turn-fits _ _ _ _ _ _ _ _ _ _ _ _ _ _ v t, some_across _ _ _ _ _ _ _ _ _ _ _ _ _ _ v t)
+    omega (arith, turn_fits _ _ _ _ _ _ _ _ _ _ _ _ _ _ v t, some_across _ _ _ _ _ _ _ _ _ _ _ _ _ _ v t)
 
 loop_again : tie.Need-loop-preserved invariant_loop decreases_loop
 loop_again c =
@@ -89,7 +89,7 @@ same_length : tie.Need-same-length invariant_loop decreases_loop
 same_length c = c.before.loop.invariant.folded.len
 
 returns : tie.Need-returns invariant_loop decreases_loop
-returns c = row-joined _ _ _ _ _ _ _ _ _ _ _ _ _ _ c.before.loop.invariant c.loop-test.false c.before.before.before.before.before.before.before.before.before.requires.0.wide
+returns c = row_joined _ _ _ _ _ _ _ _ _ _ _ _ _ _ c.before.loop.invariant c.loop-test.false c.before.before.before.before.before.before.before.before.before.requires.0.wide
 
 pub join_row_spec : {M : Type 1} → statement M
 join_row_spec =

@@ -9,7 +9,7 @@ use Rattle.states.specs.Runs.{Between}
 use Rattle.eights.proofs.TurnedLaws.{turned_high}
 use Rattle.states.proofs.TurnedLaws.{numbers_filled}
 use Rattle.states.proofs.PlaneLaws.{apart_run, apart_then}
-use Rattle.states.proofs.RowLaws.{zeros_held, started-held, starts_not_in, starts_not_at, starts_at_lem, starts_anywhere}
+use Rattle.states.proofs.RowLaws.{zeros_held, started_held, starts_not_in, starts_not_at, starts_at_lem, starts_anywhere}
 use Rattle.states.proofs.rows.start_row.Statement.{statement}
 use Rattle.states.proofs.rows.start_row.Tie as tie
 
@@ -91,7 +91,7 @@ returns_4 c =
     let r = s.requires.0 in
     let z = zeros d.before.before.before in
     let lone = d.if1.true in (
-      started-held _ _ _ s.args.plan _ _ _ r.ordered r.wide z _ _ _ _ t c.before.before.before.before.before.before.before.before.if3.false (omega (arith, c.before.before.before.before.before.if4.false))
+      started_held _ _ _ s.args.plan _ _ _ r.ordered r.wide z _ _ _ _ t c.before.before.before.before.before.before.before.before.if3.false (omega (arith, c.before.before.before.before.before.if4.false))
           (λ j x a b. starts_at_lem s.args.plan _ x _ lone (omega (arith, c.before.before.before.before.before.before.before.before.before.before.before.if2.false)) (omega (arith, a, b)))
           (λ j x a b o. starts_not_at s.args.plan _ x _ lone (λ e. elim o [ inl u ↦ omega (arith, u, e) | inr u ↦ omega (arith, u, e) ])),
       apart_then _ _ _ _ _ (apart_run _ _ _ _ _ _ _ z (omega arith) (omega arith)) t.apart,
@@ -110,7 +110,7 @@ returns_5 c =
     let s = d.before.before.before.before.before.before.before.before.before in
     let r = s.requires.0 in
     let z = zeros d.before.before.before in (
-      started-held _ _ _ s.args.plan _ _ _ r.ordered r.wide z _ _ _ _ t (omega arith) (omega arith)
+      started_held _ _ _ s.args.plan _ _ _ r.ordered r.wide z _ _ _ _ t (omega arith) (omega arith)
           (λ j x a b. starts_anywhere s.args.plan _ x _ d.if1.false)
           (λ j x a b o. elim o [ inl u ↦ absurd (omega arith) | inr u ↦ absurd (omega arith) ]),
       apart_then _ _ _ _ _ (apart_run _ _ _ _ _ _ _ z (omega arith) (omega arith)) t.apart,

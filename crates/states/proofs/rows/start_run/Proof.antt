@@ -10,7 +10,7 @@ use Rattle.plans.specs.Plans.{pitch_of}
 use Rattle.eights.specs.Turned.{numbers}
 use Rattle.plans.proofs.PlanSizes.{plane_fits}
 use Rattle.states.proofs.PlaneLaws.{planes_ends}
-use Rattle.states.proofs.RowLaws.{StartedBelow, started-first, started-later, row_started}
+use Rattle.states.proofs.RowLaws.{StartedBelow, started_first, started_later, row_started}
 use Rattle.states.proofs.rows.start_run.Statement.{statement}
 use Rattle.states.proofs.rows.start_run.Tie as tie
 
@@ -97,7 +97,7 @@ loop_again c =
       omega (arith, v.2, add-mul d.loop.j 1 (pitch_of s.args.plan)),
       c.before.before.before.raise-run.auto.0 ∙ v.3,
       λ old made.
-          started-later s.args.plan s.args.keys.now s.args.slot s.args.at _ _ s.requires.0.4 _ _ _ _ _ _ _ _
+          started_later s.args.plan s.args.keys.now s.args.slot s.args.at _ _ s.requires.0.4 _ _ _ _ _ _ _ _
           (v.4 old made) f refl v.0 v.2 refl (omega (arith, s.requires)),
     )
 
@@ -112,7 +112,7 @@ returns c =
     let k = s.args.keys.now in
     let r = d.before.before.before.before.turn-run in
     let entry = numbers s.args.held.now in
-    let made = started-first p k s.args.slot s.args.at s.args.first s.args.past s.requires.0.4 entry (numbers r.new.0) _ _ _
+    let made = started_first p k s.args.slot s.args.at s.args.first s.args.past s.requires.0.4 entry (numbers r.new.0) _ _ _
     r.ensures.0 (omega arith) refl (omega (arith, s.requires)) in
     let all = planes_ends _ _ _ _ _ _ _ _ (d.loop.invariant.4 entry made) (let e : d.loop.j ≡ p.planes = omega arith in e) in
     row_started _ _ (λ (x : ℕ). get_or k (s.args.at + x) 0) _ _ _ _ (omega (arith, s.requires)) all

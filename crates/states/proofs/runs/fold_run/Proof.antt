@@ -77,10 +77,10 @@ loop_again c =
     let s = c.before.before.before.before.before.before.before.before.before.before.before in
     let a = s.args in
     let l = c.before.before.before.before.before.before.before.loop in
-    let turned-back = c.before.before.before.turn.ensures.0 ∙ sym (numbers_at a.held.now (a.h + l.x) (omega arith)) in (
+    let turned_back = c.before.before.before.turn.ensures.0 ∙ sym (numbers_at a.held.now (a.h + l.x) (omega arith)) in (
       omega arith,
       fold_more (numbers a.held.now) a.work.now _ _ a.h a.w _ _ _ _ _ l.invariant.1 s.requires.0 c.before.before.before.before.before.before.loop-test.true
-          (c.before.min2.ensures ∙ ap (λ (v : ℕ). min v (get_or a.work.now (a.w + l.x) 0)) turned-back) c.max2.ensures,
+          (c.before.min2.ensures ∙ ap (λ (v : ℕ). min v (get_or a.work.now (a.w + l.x) 0)) turned_back) c.max2.ensures,
     )
 
 same_length : tie.Need-same-length invariant_loop decreases_loop

@@ -6,7 +6,7 @@ use lib.ListN.{length}
 use Rattle.text_lines.specs.Bytes.{bytes}
 use Rattle.text_lines.specs.Format.{edition}
 use Rattle.survey_text.specs.Reading.{edition_line}
-use Rattle.survey_text.proofs.Steps.{handed_on, step_no_name, step-no-value, step_value}
+use Rattle.survey_text.proofs.Steps.{handed_on, step_no_name, step_no_value, step_value}
 use Rattle.survey_text.proofs.line.edition_line.Statement.{statement}
 use Rattle.survey_text.proofs.line.edition_line.Tie as tie
 
@@ -67,7 +67,7 @@ returns_3 c = let f = c.before.before.before.before.before.before in
     let v = f.before.before in
     let b = v.before.before.before.before.before in
     rw c.refuse2.ensures
-    (step-no-value b.args.s.now (bytes "plate=") edition b.args.c b.requires v.before.before.if1.false _ _ (rw f.found.given.1 at v.value-at.ensures.0) 0
+    (step_no_value b.args.s.now (bytes "plate=") edition b.args.c b.requires v.before.before.if1.false _ _ (rw f.found.given.1 at v.value-at.ensures.0) 0
     (rw c.before.enum-told2.given.1 at c.before.before.before.edition-in.ensures))
 
 add_t14 : tie.Need-overflow-add-t14

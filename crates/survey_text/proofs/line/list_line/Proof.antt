@@ -5,7 +5,7 @@ use native.Mathlib.Omega.{arith}
 use Prim.Native.Nat.{◌≤◌, ◌<◌}
 use lib.ListN.{length}
 use Rattle.text_lines.specs.Format.{list}
-use Rattle.survey_text.proofs.Steps.{handed_on, step_no_name, step-no-value, step_value}
+use Rattle.survey_text.proofs.Steps.{handed_on, step_no_name, step_no_value, step_value}
 use Rattle.survey_text.proofs.line.list_line.Statement.{statement}
 use Rattle.survey_text.proofs.line.list_line.Tie as tie
 
@@ -60,7 +60,7 @@ returns_3 c = let l = c.before.before.before.before in
     let v = f.before.before in
     let b = v.before.before.before.before.before.before in
     rw c.refuse2.ensures
-    (step-no-value b.args.s.now b.args.name.now (list (length b.args.out.now)) b.args.c b.requires v.before.if1.false _ _
+    (step_no_value b.args.s.now b.args.name.now (list (length b.args.out.now)) b.args.c b.requires v.before.if1.false _ _
     (rw f.found.given.1 at v.value-at.ensures.0) _ (rw (not-true l.list-in.result c.before.if2.true) at l.list-in.ensures.0))
 
 add_t10 : tie.Need-overflow-add-t10

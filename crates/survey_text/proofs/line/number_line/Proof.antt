@@ -4,7 +4,7 @@ use native.Mathlib.Omega.{arith}
 use Prim.Native.Nat.{◌≤◌, ◌<◌}
 use lib.ListN.{length}
 use Rattle.text_lines.specs.Format.{number}
-use Rattle.survey_text.proofs.Steps.{handed_on, step_no_name, step-no-value, step_value}
+use Rattle.survey_text.proofs.Steps.{handed_on, step_no_name, step_no_value, step_value}
 use Rattle.survey_text.proofs.line.number_line.Statement.{statement}
 use Rattle.survey_text.proofs.line.number_line.Tie as tie
 
@@ -60,7 +60,7 @@ returns_3 c = let f = c.before.before.before.before.before.before in
     let v = f.before.before in
     let b = v.before.before.before.before.before in
     rw c.refuse2.ensures
-    (step-no-value b.args.s.now b.args.name.now number b.args.c b.requires v.before.if1.false _ _ (rw f.found.given.1 at v.value-at.ensures.0) 0
+    (step_no_value b.args.s.now b.args.name.now number b.args.c b.requires v.before.if1.false _ _ (rw f.found.given.1 at v.value-at.ensures.0) 0
     (rw c.before.enum-told2.given.1 at c.before.before.before.number_in.ensures))
 
 add_t12 : tie.Need-overflow-add-t12

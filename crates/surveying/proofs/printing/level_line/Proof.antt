@@ -6,7 +6,7 @@ use mathlib.Core.List.{[], ◌∷◌, ◌++◌}
 use Rattle.text_lines.specs.Bytes.{bytes, newline}
 use Rattle.survey_text.specs.Printing.{signed_decimal, line, level_line}
 use Rattle.surveying.specs.Buffers.{Room, Written}
-use Rattle.surveying.proofs.Written.{room_one, room-two, room-three, written-three}
+use Rattle.surveying.proofs.Written.{room_one, room_two, room_three, written_three}
 use Rattle.surveying.proofs.printing.level_line.Statement.{statement}
 use Rattle.surveying.proofs.printing.level_line.Tie as tie
 
@@ -25,7 +25,7 @@ put_level_requires : tie.Need-put-level-requires
 put_level_requires c κs = let t = c.before.before.before in
     let b = t.before.before.before.before in
     rw (to_z-of_z w16 b.args.level b.ranges.level)
-    (room-two (bytes "level=") (signed_decimal b.args.level) (newline ∷ []) (room b) t.put-text.ensures)
+    (room_two (bytes "level=") (signed_decimal b.args.level) (newline ∷ []) (room b) t.put-text.ensures)
 
 -- what `put_level` wrote
 value : (c : tie.After-put-level) → let b = c.before.before.before.before.before.before.before.before in Written (signed_decimal b.args.level) c.before.before.before.before.put-text.result c.before.before.before.before.put-text.new.1.0 c.put-level.new.1.0 c.put-level.result
@@ -35,7 +35,7 @@ put_requires : tie.Need-put-requires
 put_requires c κs = let v = c.before.before.before in
     let t = v.before.before.before.before in
     let b = t.before.before.before.before in
-    room-three (bytes "level=") (signed_decimal b.args.level) (newline ∷ []) (room b) t.put-text.ensures (value v)
+    room_three (bytes "level=") (signed_decimal b.args.level) (newline ∷ []) (room b) t.put-text.ensures (value v)
 
 same_length : tie.Need-same-length
 same_length c = search rules
@@ -46,7 +46,7 @@ returns c = let p = c.before.before in
     let v = p.before.before.before.before in
     let t = v.before.before.before.before in
     let b = t.before.before.before.before in
-    written-three (bytes "level=") (signed_decimal b.args.level) (newline ∷ []) (room b) t.put-text.ensures (value v) p.put.ensures
+    written_three (bytes "level=") (signed_decimal b.args.level) (newline ∷ []) (room b) t.put-text.ensures (value v) p.put.ensures
 
 pub level_line_spec : {M : Type 1} → statement M
 level_line_spec =

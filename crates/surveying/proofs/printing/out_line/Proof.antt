@@ -4,7 +4,7 @@ use mathlib.Core.List.{[], ◌∷◌, ◌++◌, map}
 use Rattle.text_lines.specs.Bytes.{bytes, newline}
 use Rattle.survey_text.specs.Printing.{signed_decimal, parted, line, out_line}
 use Rattle.surveying.specs.Buffers.{Room}
-use Rattle.surveying.proofs.Written.{room_one, room-two, room-three, written-three}
+use Rattle.surveying.proofs.Written.{room_one, room_two, room_three, written_three}
 use Rattle.surveying.proofs.printing.out_line.Statement.{statement}
 use Rattle.surveying.proofs.printing.out_line.Tie as tie
 
@@ -22,13 +22,13 @@ put_text_requires c κs = let b = c.before.before.before in room_one (bytes "out
 put_levels_requires : tie.Need-put-levels-requires
 put_levels_requires c κs = let t = c.before.before.before in
     let b = t.before.before.before.before in
-    room-two (bytes "out=") (parted (map signed_decimal b.args.row.now)) (newline ∷ []) (room b) t.put-text.ensures
+    room_two (bytes "out=") (parted (map signed_decimal b.args.row.now)) (newline ∷ []) (room b) t.put-text.ensures
 
 put_requires : tie.Need-put-requires
 put_requires c κs = let v = c.before.before.before in
     let t = v.before.before.before.before in
     let b = t.before.before.before.before in
-    room-three (bytes "out=") (parted (map signed_decimal b.args.row.now)) (newline ∷ []) (room b) t.put-text.ensures v.put-levels.ensures
+    room_three (bytes "out=") (parted (map signed_decimal b.args.row.now)) (newline ∷ []) (room b) t.put-text.ensures v.put-levels.ensures
 
 same_length : tie.Need-same-length
 same_length c = search rules
@@ -39,7 +39,7 @@ returns c = let p = c.before.before in
     let v = p.before.before.before.before in
     let t = v.before.before.before.before in
     let b = t.before.before.before.before in
-    written-three (bytes "out=") (parted (map signed_decimal b.args.row.now)) (newline ∷ []) (room b) t.put-text.ensures v.put-levels.ensures p.put.ensures
+    written_three (bytes "out=") (parted (map signed_decimal b.args.row.now)) (newline ∷ []) (room b) t.put-text.ensures v.put-levels.ensures p.put.ensures
 
 pub out_line_spec : {M : Type 1} → statement M
 out_line_spec =

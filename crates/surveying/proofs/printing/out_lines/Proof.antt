@@ -8,7 +8,7 @@ use lib.ListN.{length, take, drop}
 use Rattle.survey_text.specs.Printing.{rows, out_line}
 use Rattle.survey_text.proofs.Rows.{row_fits}
 use Rattle.surveying.proofs.OutLines.{lines_from, lines_all, lines_more, lines_end}
-use Rattle.surveying.proofs.Written.{Writing, writing_none, writing_length, writing_end, writing-room, writing_more}
+use Rattle.surveying.proofs.Written.{Writing, writing_none, writing_length, writing_end, writing_room, writing_more}
 use Rattle.surveying.proofs.printing.out_lines.Statement.{statement}
 use Rattle.surveying.proofs.printing.out_lines.Tie as tie
 
@@ -62,7 +62,7 @@ ahead c = lines_more _ _ _ _ _ c.loop-test.true
 
 out_line_requires : tie.Need-out-line-requires invariant_loop decreases_loop
 out_line_requires c κs = let w = c.before.before in
-    writing-room w.before.loop.invariant.2 w.before.before.before.requires.1 (row w) (more w) (ahead w)
+    writing_room w.before.loop.invariant.2 w.before.before.before.requires.1 (row w) (more w) (ahead w)
 
 add_i : tie.Need-overflow-add-i invariant_loop decreases_loop
 add_i c = search rules

@@ -4,7 +4,7 @@ use mathlib.Core.List.{[], ◌∷◌, ◌++◌, map}
 use Rattle.text_lines.specs.Bytes.{bytes, newline}
 use Rattle.survey_text.specs.Printing.{decimal, parted, line, path_line}
 use Rattle.surveying.specs.Buffers.{Room}
-use Rattle.surveying.proofs.Written.{room_one, room-two, room-three, written-three}
+use Rattle.surveying.proofs.Written.{room_one, room_two, room_three, written_three}
 use Rattle.surveying.proofs.printing.path_line.Statement.{statement}
 use Rattle.surveying.proofs.printing.path_line.Tie as tie
 
@@ -22,13 +22,13 @@ put_text_requires c κs = let b = c.before.before.before.before in room_one (byt
 put_places_requires : tie.Need-put-places-requires
 put_places_requires c κs = let t = c.before.before.before in
     let b = t.before.before.before.before.before in
-    room-two (bytes "path=") (parted (map decimal b.args.path.now)) (newline ∷ []) (room b) t.put-text.ensures
+    room_two (bytes "path=") (parted (map decimal b.args.path.now)) (newline ∷ []) (room b) t.put-text.ensures
 
 put_requires : tie.Need-put-requires
 put_requires c κs = let v = c.before.before.before in
     let t = v.before.before.before.before in
     let b = t.before.before.before.before.before in
-    room-three (bytes "path=") (parted (map decimal b.args.path.now)) (newline ∷ []) (room b) t.put-text.ensures v.put-places.ensures
+    room_three (bytes "path=") (parted (map decimal b.args.path.now)) (newline ∷ []) (room b) t.put-text.ensures v.put-places.ensures
 
 same_length : tie.Need-same-length
 same_length c = search rules
@@ -39,7 +39,7 @@ returns c = let p = c.before.before in
     let v = p.before.before.before.before in
     let t = v.before.before.before.before in
     let b = t.before.before.before.before.before in
-    written-three (bytes "path=") (parted (map decimal b.args.path.now)) (newline ∷ []) (room b) t.put-text.ensures v.put-places.ensures p.put.ensures
+    written_three (bytes "path=") (parted (map decimal b.args.path.now)) (newline ∷ []) (room b) t.put-text.ensures v.put-places.ensures p.put.ensures
 
 pub path_line_spec : {M : Type 1} → statement M
 path_line_spec =

@@ -5,7 +5,7 @@ use mathlib.Core.List.{List, ◌++◌, flat_map}
 use Rattle.text_lines.specs.Bytes.{bytes}
 use Rattle.survey_text.specs.Printing.{decimal, line, rows, out_line, out_text}
 use Rattle.surveying.specs.Buffers.{Room}
-use Rattle.surveying.proofs.Written.{room_one, room-two, room-three, written-three}
+use Rattle.surveying.proofs.Written.{room_one, room_two, room_three, written_three}
 use Rattle.surveying.proofs.printing.print_plate.Statement.{statement}
 use Rattle.surveying.proofs.printing.print_plate.Tie as tie
 
@@ -35,13 +35,13 @@ slice_aggregate_number_line_2 c = search rules
 number_line_requires_2 : tie.Need-number-line-requires-2
 number_line_requires_2 c κs = let w = c.before.before.before.before in
     let b = w.before.before.before.before in
-    room-two (width_line b) (height_line b) (rows_lines b) (room b) w.number-line.ensures
+    room_two (width_line b) (height_line b) (rows_lines b) (room b) w.number-line.ensures
 
 out_lines_requires : tie.Need-out-lines-requires
 out_lines_requires c κs = let h = c.before.before.before in
     let w = h.before.before.before.before.before in
     let b = w.before.before.before.before in
-    (b.requires.0, room-three (width_line b) (height_line b) (rows_lines b) (room b) w.number-line.ensures h.number-line2.ensures)
+    (b.requires.0, room_three (width_line b) (height_line b) (rows_lines b) (room b) w.number-line.ensures h.number-line2.ensures)
 
 same_length : tie.Need-same-length
 same_length c = search rules
@@ -52,7 +52,7 @@ returns c = let r = c.before.before in
     let h = r.before.before.before.before in
     let w = h.before.before.before.before.before in
     let b = w.before.before.before.before in
-    written-three (width_line b) (height_line b) (rows_lines b) (room b) w.number-line.ensures h.number-line2.ensures r.out-lines.ensures
+    written_three (width_line b) (height_line b) (rows_lines b) (room b) w.number-line.ensures h.number-line2.ensures r.out-lines.ensures
 
 pub print_plate_spec : {M : Type 1} → statement M
 print_plate_spec =

@@ -5,7 +5,7 @@ use mathlib.Core.List.{List, ◌++◌}
 use Rattle.text_lines.specs.Bytes.{bytes}
 use Rattle.survey_text.specs.Printing.{decimal, line, refusal_text}
 use Rattle.surveying.specs.Buffers.{Room}
-use Rattle.surveying.proofs.Written.{room_first, room-then, written_then}
+use Rattle.surveying.proofs.Written.{room_first, room_then, written_then}
 use Rattle.surveying.proofs.printing.print_refusal.Statement.{statement}
 use Rattle.surveying.proofs.printing.print_refusal.Tie as tie
 
@@ -32,7 +32,7 @@ slice_aggregate_number_line_2 c = search rules
 number_line_requires_2 : tie.Need-number-line-requires-2
 number_line_requires_2 c κs = let n = c.before.before.before.before in
     let b = n.before.before.before.before in
-    room-then (refused_line b) (place_line b) (room b) n.number-line.ensures
+    room_then (refused_line b) (place_line b) (room b) n.number-line.ensures
 
 same_length : tie.Need-same-length
 same_length c = search rules

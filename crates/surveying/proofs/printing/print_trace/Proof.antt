@@ -7,7 +7,7 @@ use mathlib.Core.List.{List, ◌++◌}
 use Rattle.text_lines.specs.Bytes.{bytes}
 use Rattle.survey_text.specs.Printing.{decimal, line, level_line, path_line, trace_text}
 use Rattle.surveying.specs.Buffers.{Room, Written}
-use Rattle.surveying.proofs.Written.{room_one, room-two, room-three, written-three}
+use Rattle.surveying.proofs.Written.{room_one, room_two, room_three, written_three}
 use Rattle.surveying.proofs.printing.print_trace.Statement.{statement}
 use Rattle.surveying.proofs.printing.print_trace.Tie as tie
 
@@ -34,7 +34,7 @@ number_line_requires c κs = let b = c.before.before.before.before in room_one (
 level_line_requires : tie.Need-level-line-requires
 level_line_requires c κs = let n = c.before.before.before in
     let b = n.before.before.before.before.before in
-    rw (to_z-of_z w16 b.args.level b.ranges.level) (room-two (way_line b) (level_line_lem b) (path_line_lem b) (room b) n.number-line.ensures)
+    rw (to_z-of_z w16 b.args.level b.ranges.level) (room_two (way_line b) (level_line_lem b) (path_line_lem b) (room b) n.number-line.ensures)
 
 -- what `level_line` wrote
 level_written : (c : tie.After-level-line) → let n = c.before.before.before.before in
@@ -47,7 +47,7 @@ path_line_requires : tie.Need-path-line-requires
 path_line_requires c κs = let l = c.before.before.before in
     let n = l.before.before.before.before in
     let b = n.before.before.before.before.before in
-    room-three (way_line b) (level_line_lem b) (path_line_lem b) (room b) n.number-line.ensures (level_written l)
+    room_three (way_line b) (level_line_lem b) (path_line_lem b) (room b) n.number-line.ensures (level_written l)
 
 same_length : tie.Need-same-length
 same_length c = search rules
@@ -58,7 +58,7 @@ returns c = let p = c.before.before in
     let l = p.before.before.before.before in
     let n = l.before.before.before.before in
     let b = n.before.before.before.before.before in
-    written-three (way_line b) (level_line_lem b) (path_line_lem b) (room b) n.number-line.ensures (level_written l) p.path-line.ensures
+    written_three (way_line b) (level_line_lem b) (path_line_lem b) (room b) n.number-line.ensures (level_written l) p.path-line.ensures
 
 pub print_trace_spec : {M : Type 1} → statement M
 print_trace_spec =

@@ -6,7 +6,7 @@ use Rattle.text_lines.specs.Bytes.{zero_digit}
 use Rattle.survey_text.specs.Printing.{decimal}
 use Rattle.surveying.specs.Buffers.{Room}
 use Rattle.surveying.proofs.Decimals.{decimal_one, decimal_more}
-use Rattle.surveying.proofs.Written.{room_first, room-then, written_then}
+use Rattle.surveying.proofs.Written.{room_first, room_then, written_then}
 use Prim.Native.Nat.{ℕ, ◌+◌, ◌/◌, ◌%◌, ◌≤◌, ◌<◌}
 use borrow.Fn.Kinds.{In}
 use borrow.Fn.PlainCycle.{Measures, is, falls, and}
@@ -116,7 +116,7 @@ put_number_put_requires_2 : (t : ℕ) → put-number-lts.Need-put-requires-2 (
 ) (put_number_at t) put-number.Post
 put_number_put_requires_2 t c κs = let p = c.before.before.before in
     let b = p.before.before.before.before in
-    room-then (tenth b) (last b) (parts_room b p.before.before.if1.false) p.put-number.ensures
+    room_then (tenth b) (last b) (parts_room b p.before.before.if1.false) p.put-number.ensures
 
 put_number_same_length_2 : (t : ℕ) → put-number-lts.Need-same-length-2 (
   put_reads.Asked,

@@ -11,7 +11,7 @@ use Rattle.text_lines.specs.Bytes.{minus}
 use Rattle.survey_text.specs.Printing.{decimal}
 use Rattle.surveying.specs.Buffers.{Room}
 use Rattle.surveying.proofs.SignedDecimals.{below_zero, not_below_zero}
-use Rattle.surveying.proofs.Written.{room_first, room-then, written_then}
+use Rattle.surveying.proofs.Written.{room_first, room_then, written_then}
 use Rattle.surveying.proofs.writing.put_level.Statement.{statement}
 use Rattle.surveying.proofs.writing.put_level.Tie as tie
 
@@ -40,7 +40,7 @@ put_number_requires : tie.Need-put-number-requires
 put_number_requires c κs = let m = c.before in
     let p = m.before.before.before in
     let b = p.before.before.before.before in
-    rw (far m) (room-then (minus ∷ []) (decimal (nat_abs b.args.level)) (room p.before.before) p.put.ensures)
+    rw (far m) (room_then (minus ∷ []) (decimal (nat_abs b.args.level)) (room p.before.before) p.put.ensures)
 
 same_length : tie.Need-same-length
 same_length c = search rules

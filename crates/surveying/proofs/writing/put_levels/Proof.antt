@@ -10,8 +10,8 @@ use mir.Syntax.{w16}
 use mir.ValLaws.{to_z-of_z}
 use Rattle.survey_text.specs.Printing.{signed_decimal}
 use Rattle.surveying.specs.Buffers.{Room, Written}
-use Rattle.surveying.proofs.Parted.{behind, parted_none, parted_first, behind_end, comma-room, element-room, element-written}
-use Rattle.surveying.proofs.Written.{Writing, written_none, room_first, room-then, written_then, writing_none, writing_length, writing_end}
+use Rattle.surveying.proofs.Parted.{behind, parted_none, parted_first, behind_end, comma_room, element_room, element_written}
+use Rattle.surveying.proofs.Written.{Writing, written_none, room_first, room_then, written_then, writing_none, writing_length, writing_end}
 use Rattle.surveying.proofs.writing.put_levels.Statement.{statement}
 use Rattle.surveying.proofs.writing.put_levels.Tie as tie
 
@@ -52,7 +52,7 @@ first : (c : tie.After-put-level invariant_loop decreases_loop) → let b = c.be
 first c = rw (to_z-of_z w16 (get_or c.before.before.before.before.before.args.levels.now 0 (pos 0)) (record { sfits = c.before.before.put-level-arg.given })) at c.put-level.ensures
 
 others_room : (c : tie.After-put-level invariant_loop decreases_loop) → Room (behind signed_decimal (drop 1 c.before.before.before.before.before.args.levels.now)) c.put-level.result c.put-level.new.1.0
-others_room c = let e = c.before.before.before in room-then (head e) (others e) (room e) (first c)
+others_room c = let e = c.before.before.before in room_then (head e) (others e) (room e) (first c)
 
 loop_holds : tie.Need-loop-init invariant_loop decreases_loop
 loop_holds c = (omega arith, writing_none _ _ _)
@@ -60,7 +60,7 @@ loop_holds c = (omega arith, writing_none _ _ _)
 put_requires : tie.Need-put-requires invariant_loop decreases_loop
 put_requires c κs = let l = c.before.before in
     let p = l.before.before.before in
-    comma-room signed_decimal _ (pos 0) _ c.before.loop-test.true l.loop.invariant.1 (others_room p)
+    comma_room signed_decimal _ (pos 0) _ c.before.loop-test.true l.loop.invariant.1 (others_room p)
 
 mul_put_level : tie.Need-overflow-mul-put-level invariant_loop decreases_loop
 mul_put_level c = search rules
@@ -74,7 +74,7 @@ put_level_requires_2 c κs = let q = c.before.before.before.before in
     let p = l.before.before.before in
     let levels = p.before.before.before.before.before.args.levels.now in
     rw (to_z-of_z w16 (get_or levels l.loop.i (pos 0)) (record { sfits = c.before.put-level-arg3.given }))
-    (element-room signed_decimal levels (pos 0) l.loop.i q.before.before.loop-test.true l.loop.invariant.1 (others_room p) q.put.ensures)
+    (element_room signed_decimal levels (pos 0) l.loop.i q.before.before.loop-test.true l.loop.invariant.1 (others_room p) q.put.ensures)
 
 add_i : tie.Need-overflow-add-i invariant_loop decreases_loop
 add_i c = search rules
@@ -89,7 +89,7 @@ loop_again c = let n = c.before.before in
     let p = l.before.before.before in
     let levels = p.before.before.before.before.before.args.levels.now in (
       omega arith,
-      element-written signed_decimal levels (pos 0) l.loop.i q.before.before.loop-test.true l.loop.invariant.1 (others_room p) q.put.ensures _ _
+      element_written signed_decimal levels (pos 0) l.loop.i q.before.before.loop-test.true l.loop.invariant.1 (others_room p) q.put.ensures _ _
           (rw (to_z-of_z w16 (get_or levels l.loop.i (pos 0)) (record { sfits = n.before.before.put-level-arg3.given })) at n.put-level2.ensures),
     )
 

@@ -7,8 +7,8 @@ use Prim.Native.Nat.{ℕ, ◌≤◌, ◌-◌}
 use lib.ListN.{length, get_or, drop}
 use Rattle.survey_text.specs.Printing.{decimal}
 use Rattle.surveying.specs.Buffers.{Room}
-use Rattle.surveying.proofs.Parted.{behind, parted_none, parted_first, behind_end, comma-room, element-room, element-written}
-use Rattle.surveying.proofs.Written.{Writing, written_none, room_first, room-then, written_then, writing_none, writing_length, writing_end}
+use Rattle.surveying.proofs.Parted.{behind, parted_none, parted_first, behind_end, comma_room, element_room, element_written}
+use Rattle.surveying.proofs.Written.{Writing, written_none, room_first, room_then, written_then, writing_none, writing_length, writing_end}
 use Rattle.surveying.proofs.writing.put_places.Statement.{statement}
 use Rattle.surveying.proofs.writing.put_places.Tie as tie
 
@@ -41,7 +41,7 @@ put_number_requires c κs = room_first (head c.before.before) (others c.before.b
 
 -- there is room for the others
 others_room : (c : tie.After-put-number invariant_loop decreases_loop) → Room (behind decimal (drop 1 c.before.before.before.before.before.before.args.places.now)) c.put-number.result c.put-number.new.1.0
-others_room c = let e = c.before.before.before in room-then (head e) (others e) (room e) c.put-number.ensures
+others_room c = let e = c.before.before.before in room_then (head e) (others e) (room e) c.put-number.ensures
 
 loop_holds : tie.Need-loop-init invariant_loop decreases_loop
 loop_holds c = (omega arith, writing_none _ _ _)
@@ -50,7 +50,7 @@ put_requires : tie.Need-put-requires invariant_loop decreases_loop
 put_requires c κs = let l = c.before.before in
     let p = l.before.before.before in
     let places = p.before.before.before.before.before.before.args.places.now in
-    comma-room decimal places 0 l.loop.i c.before.loop-test.true l.loop.invariant.1 (others_room p)
+    comma_room decimal places 0 l.loop.i c.before.loop-test.true l.loop.invariant.1 (others_room p)
 
 mul_put_number : tie.Need-overflow-mul-put-number invariant_loop decreases_loop
 mul_put_number c = search rules
@@ -63,7 +63,7 @@ put_number_requires_2 c κs = let q = c.before.before.before.before in
     let l = q.before.before.before in
     let p = l.before.before.before in
     let places = p.before.before.before.before.before.before.args.places.now in
-    element-room decimal places 0 l.loop.i q.before.before.loop-test.true l.loop.invariant.1 (others_room p) q.put.ensures
+    element_room decimal places 0 l.loop.i q.before.before.loop-test.true l.loop.invariant.1 (others_room p) q.put.ensures
 
 add_i : tie.Need-overflow-add-i invariant_loop decreases_loop
 add_i c = search rules
@@ -78,7 +78,7 @@ loop_again c = let n = c.before.before in
     let p = l.before.before.before in
     let places = p.before.before.before.before.before.before.args.places.now in (
       omega arith,
-      element-written decimal places 0 l.loop.i q.before.before.loop-test.true l.loop.invariant.1 (others_room p) q.put.ensures _ _ n.put-number2.ensures,
+      element_written decimal places 0 l.loop.i q.before.before.loop-test.true l.loop.invariant.1 (others_room p) q.put.ensures _ _ n.put-number2.ensures,
     )
 
 same_length : tie.Need-same-length invariant_loop decreases_loop

@@ -7,7 +7,7 @@ use mathlib.Core.List.{List, [], ◌∷◌, ◌++◌}
 use Prim.Native.Nat.{ℕ, ◌+◌, ◌-◌, ◌≤◌}
 use lib.ListN.{length, get_or, drop, drop_of_length-le}
 use lib.Seq.{drop-cons}
-use Rattle.surveying.proofs.Written.{Writing, writing_none, writing_length, writing_end, writing-room, writing_more}
+use Rattle.surveying.proofs.Written.{Writing, writing_none, writing_length, writing_end, writing_room, writing_more}
 use Rattle.surveying.proofs.writing.put_text.Statement.{statement}
 use Rattle.surveying.proofs.writing.put_text.Tie as tie
 
@@ -35,7 +35,7 @@ shared_slice_read_put c = search rules
 
 put_requires : tie.Need-put-requires invariant_loop decreases_loop
 put_requires c κs = let w = c.before.before in
-    writing-room w.before.loop.invariant.1 w.before.before.before.before.requires (byte w) (more w) (ahead w)
+    writing_room w.before.loop.invariant.1 w.before.before.before.before.requires (byte w) (more w) (ahead w)
 
 add_i : tie.Need-overflow-add-i invariant_loop decreases_loop
 add_i c = search rules

@@ -8,7 +8,7 @@ use Rattle.plans.specs.Plans.{state_size, keys_size}
 use Rattle.plans.proofs.FormLaws.{well_formed_sound}
 use Rattle.states.proofs.PlaneLaws.{apart_none}
 use Rattle.stacks.proofs.StackLaws.{half_one}
-use Rattle.sweeps.proofs.SweepLaws.{SweptTo, same_keys, same_size, same_half, full_last, swept_none, swept-more, swept_all, unlinked}
+use Rattle.sweeps.proofs.SweepLaws.{SweptTo, same_keys, same_size, same_half, full_last, swept_none, swept_more, swept_all, unlinked}
 use Rattle.sweeps.proofs.sweeping.sweep_apart.Statement.{statement}
 use Rattle.sweeps.proofs.sweeping.sweep_apart.Tie as tie
 
@@ -102,7 +102,7 @@ loop_again c =
       w.ensures.1.1 ∙ i.0,
       v.ensures.0.apart.len ∙ i.1,
       w.ensures.1.0 ∙ v.ensures.1 ∙ i.2,
-      swept-more a.plan a.other a.states (well_formed_sound _ s.requires.0.0) (well_formed_sound _ s.requires.0.1) s.requires.1.0.0 l.e (a.states - 1 - l.e) base
+      swept_more a.plan a.other a.states (well_formed_sound _ s.requires.0.0) (well_formed_sound _ s.requires.0.1) s.requires.1.0.0 l.e (a.states - 1 - l.e) base
           c.before.before.before.before.before.before.before.before.before.before.before.before.before.before.before.loop-test.true refl a.work.now a.best.now l.work l.best v.new.0 v.new.0 w.new.0 base base base
           (omega arith) (omega arith) (omega arith) i.3 v.ensures.0 (apart_none _ _ _) _
           (unlinked a.plan a.states _ _ _ _ s.requires.1.0.1) w.ensures.0,

@@ -1,7 +1,7 @@
 -- `edition_in` looks for one byte, and whether it is the digit 1 or 2: each return is a law of editions.
 use borrow.Author.Rules.{rules}
 use mathlib.Core.Path.{sym}
-use Rattle.text_lines.proofs.Digits.{edition_sized, edition_one, edition-two, edition-none}
+use Rattle.text_lines.proofs.Digits.{edition_sized, edition_one, edition_two, edition_none}
 use Rattle.text_lines.proofs.number.edition_in.Statement.{statement}
 use Rattle.text_lines.proofs.number.edition_in.Tie as tie
 
@@ -18,10 +18,10 @@ shared_slice_read_if3 : tie.Need-shared-slice-read-if3
 shared_slice_read_if3 c = search rules
 
 returns_3 : tie.Need-returns-3
-returns_3 c = let f = c.before.before in sym (edition-two _ f.before.before.if1.false f.if2.false c.if3.true)
+returns_3 c = let f = c.before.before in sym (edition_two _ f.before.before.if1.false f.if2.false c.if3.true)
 
 returns_4 : tie.Need-returns-4
-returns_4 c = let f = c.before.before in sym (edition-none _ f.before.before.if1.false f.if2.false c.if3.false)
+returns_4 c = let f = c.before.before in sym (edition_none _ f.before.before.if1.false f.if2.false c.if3.false)
 
 pub edition_in_spec : {M : Type 1} → statement M
 edition_in_spec =

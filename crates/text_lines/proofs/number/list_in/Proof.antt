@@ -9,7 +9,7 @@ use Rattle.basics.specs.Lists.{first_of}
 use Rattle.text_lines.specs.Bytes.{comma}
 use Rattle.text_lines.specs.Format.{is}
 use Rattle.text_lines.proofs.Digits.{number_small}
-use Rattle.text_lines.proofs.Parts.{Listing, listing_none, listing_full, part_fits, listing_bad, listing-last, listing-more}
+use Rattle.text_lines.proofs.Parts.{Listing, listing_none, listing_full, part_fits, listing_bad, listing_last, listing_more}
 use Rattle.text_lines.proofs.number.list_in.Statement.{statement}
 use Rattle.text_lines.proofs.number.list_in.Tie as tie
 
@@ -96,7 +96,7 @@ returns_2 : tie.Need-returns-2 invariant_loop decreases_loop
 returns_2 c = let g = c.before.before in
     let f = g.before.before.before.before in
     let l = f.before.before.before in
-    listing-last _ _ _ _ _ _ l.loop.invariant (room f.before.before) (found f) _
+    listing_last _ _ _ _ _ _ l.loop.invariant (room f.before.before) (found f) _
     (rw g.got.given.1 at g.before.before.number_in.ensures) c.if1.true
 
 add_from : tie.Need-overflow-add-from invariant_loop decreases_loop
@@ -109,7 +109,7 @@ loop_again : tie.Need-loop-preserved invariant_loop decreases_loop
 loop_again c = let g = c.before.before in
     let f = g.before.before.before.before in
     let l = f.before.before.before in
-    listing-more _ _ _ _ _ _ l.loop.invariant (room f.before.before) (found f) _
+    listing_more _ _ _ _ _ _ l.loop.invariant (room f.before.before) (found f) _
     (rw g.got.given.1 at g.before.before.number_in.ensures) c.if1.false
 
 same_length_3 : tie.Need-same-length-3 invariant_loop decreases_loop

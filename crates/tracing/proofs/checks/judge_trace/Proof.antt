@@ -6,7 +6,7 @@ use borrow.Author.Rules.{rules}
 use Rattle.plate.specs.Refusals.{Verdict.accepted}
 use Rattle.plate.specs.Answers.{answered, call_verdict}
 use Rattle.plate.specs.Calls.{Passed}
-use Rattle.tracing.proofs.Refusing.{lent, refused_call, passed-eight, refused-place, refused-no-path, all_passed}
+use Rattle.tracing.proofs.Refusing.{lent, refused_call, passed_eight, refused_place, refused_no_path, all_passed}
 use Rattle.tracing.proofs.checks.judge_trace.Statement.{statement}
 use Rattle.tracing.proofs.checks.judge_trace.Tie as tie
 
@@ -19,7 +19,7 @@ module _ (c : tie.After-enum-told) where
   call = sym (ap answered c.enum_told.given.1) ∙ c.before.before.judge.ensures
 
   eight : let a = start.args in Passed a.width a.height a.setting a.input a.setting.length a.filled a.work
-  eight = passed-eight _ _ _ _ start.args.at _ _ call
+  eight = passed_eight _ _ _ _ start.args.at _ _ call
 
   on : start.args.at < start.args.input → start.args.at < start.args.width * start.args.height
   on l = omega (arith, eight.plate_size)
@@ -37,7 +37,7 @@ enum_told : tie.Need-enum-told
 enum_told c = search rules
 
 returns_2 : tie.Need-returns-2
-returns_2 c = refused-place _ _ _ _ _ _ _ (call c.before) (omega (arith, (eight c.before).plate_size, c.if1.true))
+returns_2 c = refused_place _ _ _ _ _ _ _ (call c.before) (omega (arith, (eight c.before).plate_size, c.if1.true))
 
 first_usable_requires : tie.Need-first-usable-requires
 first_usable_requires c κs = search rules
@@ -45,7 +45,7 @@ first_usable_requires c κs = search rules
 returns_3 : tie.Need-returns-3
 returns_3 c =
     let t = c.before.before.before in
-    refused-no-path _ _ _ _ _ _ _ (call t) (on t c.before.before.if1.false) _ c.before.first-usable.ensures c.if2.true
+    refused_no_path _ _ _ _ _ _ _ (call t) (on t c.before.before.if1.false) _ c.before.first-usable.ensures c.if2.true
 
 returns_4 : tie.Need-returns-4
 returns_4 c =

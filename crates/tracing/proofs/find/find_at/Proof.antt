@@ -4,7 +4,7 @@ use native.Mathlib.Omega.{arith}
 use borrow.Author.Rules.{rules}
 use Rattle.plate.proofs.Spans.{span_good, span_bound}
 use Rattle.headings.proofs.Directions.{usable_long}
-use Rattle.tracing.proofs.Finding.{scan_pixels, scan_room, scan-found}
+use Rattle.tracing.proofs.Finding.{scan_pixels, scan_room, scan_found}
 use Rattle.tracing.proofs.find.find_at.Statement.{statement}
 use Rattle.tracing.proofs.find.find_at.Tie as tie
 
@@ -50,7 +50,7 @@ returns c =
     let a = s.args in
     let r = c.before.before.before.before.scan-of in
     let f = c.before.before.find-in in
-    (scan-found r.result a.width a.height a.setting a.index r.ensures.0 r.ensures.1 s.requires.0.long a.plate.now a.x a.found f.result f.ensures.0, f.ensures.1)
+    (scan_found r.result a.width a.height a.setting a.index r.ensures.0 r.ensures.1 s.requires.0.long a.plate.now a.x a.found f.result f.ensures.0, f.ensures.1)
 
 pub find_at_spec : {M : Type 1} → statement M
 find_at_spec =

@@ -8,7 +8,7 @@ use Rattle.headings.proofs.DoorTests.{rank_there}
 use Rattle.headings.proofs.Rooms.{rank_below}
 use Rattle.tracing.proofs.Modes.{key_read}
 use Rattle.tracing.proofs.SideNotes.{notes_small, noted_apart}
-use Rattle.tracing.proofs.NotedTerms.{searched-found}
+use Rattle.tracing.proofs.NotedTerms.{searched_found}
 use Rattle.tracing.proofs.find.find_in.Statement.{statement}
 use Rattle.tracing.proofs.find.find_in.Tie as tie
 
@@ -90,7 +90,7 @@ returns c =
     let is-own = key_read a.scan a.plate.now a.x own.result c.before.before.before.before.before.before.before.before.before.before.before.before.before.before.before.before.before.before.before.before.key-by-arg.given (omega (arith, s.requires.1)) own.ensures in
     let ends' = noted_apart a.scan.slack a.scan.width a.scan.height (bit_of a.scan) true (key_of a.scan a.plate.now) a.scan.setting.gaps a.scan.steps a.x 0 9216 _ _ _
     goes.apart (omega (arith, small)) ends.noted in (
-      searched-found a.scan.slack a.scan.width a.scan.height a.scan.steps a.scan.setting.gaps a.scan.spare (key_of a.scan a.plate.now) a.x
+      searched_found a.scan.slack a.scan.width a.scan.height a.scan.steps a.scan.setting.gaps a.scan.spare (key_of a.scan a.plate.now) a.x
           a.scan.index
           s.requires.0.known s.requires.1.1 s.requires.0.long _ (record { ends = 0; goes = 9216; steps = a.scan.steps; gaps = a.scan.setting.gaps })
           own.result refl refl is-own

@@ -5,7 +5,7 @@ use native.Mathlib.Omega.{arith}
 use borrow.Author.Rules.{rules}
 use Rattle.tracing.specs.Scans.{key_of}
 use Rattle.tracing.specs.Following.{low_along}
-use Rattle.headings.proofs.DoorTests.{goes-if}
+use Rattle.headings.proofs.DoorTests.{goes_if}
 use Rattle.tracing.proofs.Inward.{low_along_zero}
 use Rattle.tracing.proofs.follow.follow.Statement.{statement}
 use Rattle.tracing.proofs.follow.follow.Tie as tie
@@ -26,7 +26,7 @@ returns c =
     let leads = s.requires.1.1.1.1.1 in
     let goes =
     f.ensures.0
-    ∙ goes-if a.scan.width a.scan.height a.scan.index a.backwards a.walk.start a.walk.steps a.path.now s.requires.1.1.1.0.0 s.requires.1.1.1.0.1
+    ∙ goes_if a.scan.width a.scan.height a.scan.index a.backwards a.walk.start a.walk.steps a.path.now s.requires.1.1.1.0.0 s.requires.1.1.1.0.1
     s.requires.1.1.1.1.0 (record { size = s.requires.0.size; known = s.requires.0.known; on = leads.on }) leads.roomy in
     (rw goes at f.ensures.1, (omega (arith, none, ap low c.before.before.before.before.if1.true), (omega (arith, c.before.before.before.before.if1.true), s.requires.1.1.0)))
 

@@ -9,8 +9,8 @@ use Rattle.stacks.specs.declared.stack.Stack.{Stack}
 use Rattle.stacks.proofs.StackLaws.{row_below, state_below}
 use Rattle.tracing.specs.Following.{Kept}
 use Rattle.tracing.proofs.Sighting.{sight_planes, sight_formed, sight_sound, sight_room, sight_states_few}
-use Rattle.tracing.proofs.Walking.{empty-fits, kept-empty, kept-fetched, top-held, top_fits}
-use Rattle.tracing.proofs.FarEnd.{wanted_some, end-few, end_row, end-stands, end-ends}
+use Rattle.tracing.proofs.Walking.{empty_fits, kept_empty, kept_fetched, top_held, top_fits}
+use Rattle.tracing.proofs.FarEnd.{wanted_some, end_few, end_row, end_stands, end_ends}
 use Rattle.tracing.proofs.follow.follow_counted.Statement.{statement}
 use Rattle.tracing.proofs.follow.follow_counted.Tie as tie
 
@@ -29,8 +29,8 @@ start_kept c =
     let o = c.before.before.before.before.before.states-fitting.ensures in
     let room = sight_room a.scan s.requires.0.0 a.backwards x v.result v.ensures (length a.work.now) s.requires.1.0.1 in
     let stack : Stack = record { base = v.result.plan.lines * v.result.plan.across; places = c.before.before.before.before.before.states-fitting.result; depth = 0 } in
-    kept-empty a.scan a.backwards a.plate.now x v.result s.requires.0.0 v.ensures a.work.now (replicate 64 0) stack refl s.requires.1.1.0
-    (empty-fits a.scan a.backwards a.plate.now x v.result s.requires.0.0 v.ensures a.work.now (replicate 64 0) stack refl room refl o.0 o.1
+    kept_empty a.scan a.backwards a.plate.now x v.result s.requires.0.0 v.ensures a.work.now (replicate 64 0) stack refl s.requires.1.1.0
+    (empty_fits a.scan a.backwards a.plate.now x v.result s.requires.0.0 v.ensures a.work.now (replicate 64 0) stack refl room refl o.0 o.1
     o.2 o.1)
 
 -- the state that is wanted is one of the side's
@@ -42,7 +42,7 @@ few_wanted c =
     omega (
       arith,
       c.wanted.ensures,
-      end-few a.scan a.backwards a.plate.now (get_or a.path.now a.walk.start 0) v.result s.requires.0.0 v.ensures s.requires.1.1.0.levels a.walk.key a.walk.steps
+      end_few a.scan a.backwards a.plate.now (get_or a.path.now a.walk.start 0) v.result s.requires.0.0 v.ensures s.requires.1.1.0.levels a.walk.key a.walk.steps
           a.walk.gaps s.requires.0.1 s.requires.1.0.2 s.requires.1.0.3 s.requires.1.1.1.1.1,
     )
 
@@ -170,10 +170,10 @@ walk_in_requires c κs =
     let e = c.before.before.before.before.find-end in
     let room = sight_room a.scan s.requires.0.0 a.backwards x v.result v.ensures (length a.work.now) s.requires.1.0.1 in
     let kept =
-    kept-fetched a.scan a.backwards a.plate.now x v.result s.requires.0.0 v.ensures _ _ f.new.0 f.new.1.0 _ f.result w.result (few_wanted c.before.before.before.before.before.before.before.before.before.before.before.before)
+    kept_fetched a.scan a.backwards a.plate.now x v.result s.requires.0.0 v.ensures _ _ f.new.0 f.new.1.0 _ f.result w.result (few_wanted c.before.before.before.before.before.before.before.before.before.before.before.before)
     (start_kept c.before.before.before.before.before.before.before.before.before.before.before.before) f.ensures.0.0 f.ensures.0.1 f.ensures.0.2 f.ensures.1.0 in
     let held =
-    top-held a.scan a.backwards a.plate.now x v.result s.requires.0.0 v.ensures _ _ f.new.0 f.new.1.0 _ f.result w.result (few_wanted c.before.before.before.before.before.before.before.before.before.before.before.before)
+    top_held a.scan a.backwards a.plate.now x v.result s.requires.0.0 v.ensures _ _ f.new.0 f.new.1.0 _ f.result w.result (few_wanted c.before.before.before.before.before.before.before.before.before.before.before.before)
     (start_kept c.before.before.before.before.before.before.before.before.before.before.before.before) f.ensures.0.0 f.ensures.0.1 f.ensures.0.2 f.ensures.1.0 c.before.before.before.before.before.before.top_of.result c.before.before.before.before.before.before.top_of.ensures
     (omega (arith, w.ensures, wanted_some a.scan a.backwards a.plate.now x v.result s.requires.0.0 v.ensures v.result.plan.ranked a.walk.steps)) in (
       (s.requires.0.0, s.requires.1.0.0, s.requires.1.1.0.levels, s.requires.0.1),
@@ -188,9 +188,9 @@ walk_in_requires c κs =
               (
                 (record { halves = omega (arith, room.halves, f.ensures.1.1); few = omega (arith, f.ensures.1.1) }, e.ensures.is_gaps),
                 (
-                  end-stands a.scan a.backwards a.plate.now x v.result s.requires.0.0 v.ensures s.requires.1.1.0.levels a.walk.key a.walk.steps a.walk.gaps s.requires.0.1
+                  end_stands a.scan a.backwards a.plate.now x v.result s.requires.0.0 v.ensures s.requires.1.1.0.levels a.walk.key a.walk.steps a.walk.gaps s.requires.0.1
                       s.requires.1.0.2 s.requires.1.0.3 s.requires.1.1.1.1.1 f.new.0 c.before.before.before.before.before.before.top_of.result w.result e.result w.ensures held kept.keys e.ensures,
-                  end-ends a.scan a.backwards a.plate.now x v.result s.requires.0.0 v.ensures s.requires.1.1.0.levels a.walk.key a.walk.steps a.walk.gaps s.requires.0.1
+                  end_ends a.scan a.backwards a.plate.now x v.result s.requires.0.0 v.ensures s.requires.1.1.0.levels a.walk.key a.walk.steps a.walk.gaps s.requires.0.1
                       s.requires.1.0.2 s.requires.1.0.3 s.requires.1.1.1.1.1 f.new.0 c.before.before.before.before.before.before.top_of.result w.result e.result w.ensures held kept.keys e.ensures,
                 ),
               ),

@@ -10,9 +10,9 @@ use Rattle.theory.specs.BestWalks.{under}
 use Rattle.headings.proofs.Trails.{index_within, within_less, within_few, index_there}
 use Rattle.tracing.proofs.Inward.{Inward, inward_far}
 use Rattle.tracing.proofs.Modes.{key_read}
-use Rattle.tracing.proofs.Sighting.{sight_lines, sight_across, sight_formed, sight_sound, sight_states_few, sight_kept, keys-laid}
+use Rattle.tracing.proofs.Sighting.{sight_lines, sight_across, sight_formed, sight_sound, sight_states_few, sight_kept, keys_laid}
 use Rattle.tracing.proofs.Nearing.{place_of, stand_row, stand_on}
-use Rattle.tracing.proofs.Walking.{kept-fetched, top-held, top_fits, stand-wanted, stand-some, walk_on, walk_ends}
+use Rattle.tracing.proofs.Walking.{kept_fetched, top_held, top_fits, stand_wanted, stand_some, walk_on, walk_ends}
 use Rattle.tracing.proofs.follow.walk_in.Statement.{statement}
 use Rattle.tracing.proofs.follow.walk_in.Tie as tie
 
@@ -134,7 +134,7 @@ fetch_requires c κs =
     let v = s.requires.1.1.1.0.1 in
     let fits = s.requires.1.1.1.1.1.0.0 in
     let few =
-    stand-wanted a.scan a.backwards a.plate.now x a.sight s.requires.0.0 v s.requires.0.2 a.walk.key s.requires.0.3 a.path.now a.walk.start a.walk.steps
+    stand_wanted a.scan a.backwards a.plate.now x a.sight s.requires.0.0 v s.requires.0.2 a.walk.key s.requires.0.3 a.path.now a.walk.start a.walk.steps
     a.walk.gaps s.requires.1.1.0 l.path l.stand l.n l.invariant.5 in (
       sight_formed a.scan s.requires.0.0 a.backwards x a.sight v,
       (
@@ -164,7 +164,7 @@ nearer_requires c κs =
     let f = c.before.before.before.before.before.before.before.before.fetch in
     let w = c.before.before.before.before.before.before.before.before.before.wanted in
     let few =
-    stand-wanted a.scan a.backwards a.plate.now x a.sight s.requires.0.0 v s.requires.0.2 a.walk.key s.requires.0.3 a.path.now a.walk.start a.walk.steps
+    stand_wanted a.scan a.backwards a.plate.now x a.sight s.requires.0.0 v s.requires.0.2 a.walk.key s.requires.0.3 a.path.now a.walk.start a.walk.steps
     a.walk.gaps s.requires.1.1.0 l.path l.stand l.n l.invariant.5 in
     let top =
     top_fits a.scan a.backwards a.plate.now x a.sight s.requires.0.0 v l.work l.marks f.new.0 f.new.1.0 l.stack f.result w.result
@@ -202,16 +202,16 @@ loop_again c =
     key_read a.scan a.plate.now place.result c.before.before.before.before.before.before.before.before.before.before.before.before.before.before.before.key-by.result c.before.before.before.before.before.before.before.before.before.before.before.before.before.before.before.before.key-by-arg.given (omega (arith, on_plate, place.ensures, s.requires.0.1)) c.before.before.before.before.before.before.before.before.before.before.before.before.before.before.before.key-by.ensures
     ∙ ap (key_of a.scan a.plate.now) place.ensures in
     let few =
-    stand-wanted a.scan a.backwards a.plate.now x a.sight s.requires.0.0 v s.requires.0.2 a.walk.key s.requires.0.3 a.path.now a.walk.start a.walk.steps
+    stand_wanted a.scan a.backwards a.plate.now x a.sight s.requires.0.0 v s.requires.0.2 a.walk.key s.requires.0.3 a.path.now a.walk.start a.walk.steps
     a.walk.gaps s.requires.1.1.0 l.path l.stand l.n l.invariant.5 in
     let some =
-    stand-some a.scan a.backwards a.plate.now x a.sight s.requires.0.0 v s.requires.0.2 a.walk.key s.requires.0.3 a.path.now a.walk.start a.walk.steps
+    stand_some a.scan a.backwards a.plate.now x a.sight s.requires.0.0 v s.requires.0.2 a.walk.key s.requires.0.3 a.path.now a.walk.start a.walk.steps
     a.walk.gaps s.requires.1.1.0 l.path l.stand l.n l.invariant.5 on in
     let kept =
-    kept-fetched a.scan a.backwards a.plate.now x a.sight s.requires.0.0 v l.work l.marks f.new.0 f.new.1.0 l.stack f.result w.result
+    kept_fetched a.scan a.backwards a.plate.now x a.sight s.requires.0.0 v l.work l.marks f.new.0 f.new.1.0 l.stack f.result w.result
     (omega (arith, w.ensures, few)) l.invariant.4 f.ensures.0.0 f.ensures.0.1 f.ensures.0.2 f.ensures.1.0 in
     let held =
-    top-held a.scan a.backwards a.plate.now x a.sight s.requires.0.0 v l.work l.marks f.new.0 f.new.1.0 l.stack f.result w.result
+    top_held a.scan a.backwards a.plate.now x a.sight s.requires.0.0 v l.work l.marks f.new.0 f.new.1.0 l.stack f.result w.result
     (omega (arith, w.ensures, few)) l.invariant.4 f.ensures.0.0 f.ensures.0.1 f.ensures.0.2 f.ensures.1.0 c.before.top_of.result c.before.top_of.ensures
     (omega (arith, w.ensures, some)) in
     let next =
@@ -250,7 +250,7 @@ returns c =
     s.requires.0.3 a.path.now a.walk.start a.walk.steps a.walk.gaps s.requires.1.1.0 l.path l.stand l.n (omega (arith, c.loop-test.false)) l.invariant.5
     refl l.invariant.6 in
     let laid =
-    keys-laid a.scan s.requires.0.0 a.backwards (get_or a.path.now a.walk.start 0) a.sight s.requires.1.1.1.0.1 a.plate.now l.work s.requires.0.2
+    keys_laid a.scan s.requires.0.0 a.backwards (get_or a.path.now a.walk.start 0) a.sight s.requires.1.1.1.0.1 a.plate.now l.work s.requires.0.2
     l.invariant.4.keys in
     (ends.0, (ends.1.0, (ends.1.1, laid)))
 

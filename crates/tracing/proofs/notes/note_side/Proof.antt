@@ -5,7 +5,7 @@ use native.Mathlib.Omega.{arith}
 use lib.ListN.{length}
 use Rattle.walks.proofs.NotedStates.{SideNoted, side_none, side_more}
 use Rattle.tracing.proofs.Sighting.{sight_room, sight_formed, sight_sound, sight_states_few}
-use Rattle.tracing.proofs.SideNotes.{notes-fit, side-notes}
+use Rattle.tracing.proofs.SideNotes.{notes_fit, side_notes}
 use Rattle.tracing.proofs.notes.note_side.Statement.{statement}
 use Rattle.tracing.proofs.notes.note_side.Tie as tie
 
@@ -80,7 +80,7 @@ note_state_requires c κs =
         room.keys,
         omega (arith, room.alone, same),
         omega arith,
-        notes-fit a.scan s.requires.0 a.backwards a.x r.result r.ensures l.e a.to _ e
+        notes_fit a.scan s.requires.0 a.backwards a.x r.result r.ensures l.e a.to _ e
             (omega (arith, s.requires.1.1.0, l.invariant.3, c.before.before.before.before.before.before.before.before.before.before.before.before.before.fill-run.auto.0)),
       ),
     )
@@ -128,7 +128,7 @@ returns c =
     let l = c.before.before.loop in
     let all : l.e ≡ r.result.states = omega (arith, c.if1.false, l.invariant.0) in
     λ plate laid.
-    side-notes a.scan s.requires.0 a.backwards a.x r.result r.ensures plate s.requires.1.0.0 a.to _ _ _ _ _ laid c.before.before.before.before.before.fill-run.ensures
+    side_notes a.scan s.requires.0 a.backwards a.x r.result r.ensures plate s.requires.1.0.0 a.to _ _ _ _ _ laid c.before.before.before.before.before.fill-run.ensures
     (rw all at l.invariant.4)
 
 pub note_side_spec : {M : Type 1} → statement M

@@ -9,8 +9,8 @@ use Rattle.plate.specs.Refusals.{Verdict.accepted}
 use Rattle.plate.proofs.Spans.{span_good, span_bound}
 use Rattle.headings.proofs.Directions.{bit_there, usable_long}
 use Rattle.tracing.proofs.Modes.{level_turned}
-use Rattle.tracing.proofs.Finding.{scan_pixels, scan_room, scan-attained, scan-drawn}
-use Rattle.tracing.proofs.Showing.{clear_long, clear_plate, clear_path, clear_on, clear_accepted_sizes, level-found, path-shown}
+use Rattle.tracing.proofs.Finding.{scan_pixels, scan_room, scan_attained, scan_drawn}
+use Rattle.tracing.proofs.Showing.{clear_long, clear_plate, clear_path, clear_on, clear_accepted_sizes, level_found, path_shown}
 use Rattle.tracing.proofs.shown.find_and_draw.Statement.{statement}
 use Rattle.tracing.proofs.shown.find_and_draw.Tie as tie
 
@@ -51,7 +51,7 @@ draw_requires c κs =
       r.ensures.0,
       (
         (clear_plate a.width a.height a.setting (length a.plate.now) a.x (length a.path.now) (length a.work.now) s.requires.0 ∙ sym n, omega (arith, room, f.auto.0), omega (arith, clear_path a.width a.height a.setting (length a.plate.now) a.x (length a.path.now) (length a.work.now) s.requires.0, long, r.ensures.1.is_steps)),
-        scan-attained r.result a.width a.height a.setting f.result.index r.ensures.0 r.ensures.1 long a.plate.now a.x f.result.key f.result.before f.result.gaps
+        scan_attained r.result a.width a.height a.setting f.result.index r.ensures.0 r.ensures.1 long a.plate.now a.x f.result.key f.result.before f.result.gaps
             f.ensures.0.attained,
       ),
     )
@@ -82,10 +82,10 @@ returns c =
     let exact = clear_plate a.width a.height a.setting (length a.plate.now) a.x (length a.path.now) (length a.work.now) s.requires.0 in
     let is-level = to_z-of_z w16 v.result (record { sfits = v.type-inv }) ∙ v.ensures ∙ level_turned a.setting f.result.key in
     let path =
-    scan-drawn r.result a.width a.height a.setting f.result.index r.ensures.0 r.ensures.1 long a.plate.now a.x f.result.key d.new.0 d.ensures in (
-      ap accepted (is-level ∙ sym (level-found a.width a.height a.setting a.plate.now a.x size on long f.result f.ensures.0 exact f.ensures.1)),
+    scan_drawn r.result a.width a.height a.setting f.result.index r.ensures.0 r.ensures.1 long a.plate.now a.x f.result.key d.new.0 d.ensures in (
+      ap accepted (is-level ∙ sym (level_found a.width a.height a.setting a.plate.now a.x size on long f.result f.ensures.0 exact f.ensures.1)),
       rw (is-level, c.before.bit-of.ensures.0 ∙ bit_there f.result.index f.ensures.0.listed)
-          (path-shown a.width a.height a.setting a.plate.now a.x size on long f.result f.ensures.0 exact f.ensures.1 d.new.0 path
+          (path_shown a.width a.height a.setting a.plate.now a.x size on long f.result f.ensures.0 exact f.ensures.1 d.new.0 path
           (length a.path.now) (length a.work.now) s.requires.0),
     )
 

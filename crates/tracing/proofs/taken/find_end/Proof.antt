@@ -13,7 +13,7 @@ returns c =
     let p = s.requires.1 in
     let taken =
     end_if _ _ _ _ _
-    (record { read = record { form = s.requires.0; behind = p.3; within = p.4 }; few = p.2; near = p.0; on-lines = p.1 }) in
+    (record { read = record { form = s.requires.0; behind = p.3; within = p.4 }; few = p.2; near = p.0; on_lines = p.1 }) in
     rw taken at c.find-end.ensures
 
 pub find_end_spec : {M : Type 1} → statement M

@@ -2,7 +2,7 @@
 use borrow.Author.Rules.{rules}
 use mathlib.Core.Path.{sym, ◌∙◌}
 use borrow.Author.Tests.{not-true, not-false}
-use Rattle.walks.proofs.DoorTests.{end_1, end_2, end_3, end-4}
+use Rattle.walks.proofs.DoorTests.{end_1, end_2, end_3, end_4}
 use Rattle.walks.proofs.doors.can_end.Statement.{statement}
 use Rattle.walks.proofs.doors.can_end.Tie as tie
 
@@ -22,7 +22,7 @@ rows_in_requires : tie.Need-rows-in-requires
 rows_in_requires c κs = search rules
 
 returns_4 : tie.Need-returns-4
-returns_4 c = end-4 _ _ _ _ _ (sym c.before.before.before.before.before.can-read.ensures ∙ not-false _ c.before.before.before.before.if1.false) c.before.before.if2.false c.before.if3.false c.rows_in.result c.rows_in.ensures
+returns_4 c = end_4 _ _ _ _ _ (sym c.before.before.before.before.before.can-read.ensures ∙ not-false _ c.before.before.before.before.if1.false) c.before.before.if2.false c.before.if3.false c.rows_in.result c.rows_in.ensures
 
 pub can_end_spec : {M : Type 1} → statement M
 can_end_spec = tie.close (tie.spec can_read_requires returns returns_2 returns_3 rows_in_requires returns_4)

@@ -5,7 +5,7 @@ use mathlib.Core.Path.{sym, ap, ◌∙◌}
 use borrow.Author.Tests.{not-true, not-false}
 use Prim.Native.Nat.{ℕ, ◌+◌, ◌*◌}
 use lib.Dec.{leb}
-use Rattle.walks.proofs.DoorTests.{read_facts, past_few, note_1, note_2, note_3, note-4}
+use Rattle.walks.proofs.DoorTests.{read_facts, past_few, note_1, note_2, note_3, note_4}
 use Rattle.walks.proofs.doors.can_note.Statement.{statement}
 use Rattle.walks.proofs.doors.can_note.Tie as tie
 
@@ -38,7 +38,7 @@ returns_4 c =
     let a = c.before.before.before.before.before.before.before.args in
     c.lies_in.ensures
     ∙ ap (λ (n : ℕ). leb (a.to + n * a.plan.planes) a.notes) c.before.before.steps-past.ensures
-    ∙ note-4 _ _ _ _ _ _ (sym c.before.before.before.before.before.before.can-read.ensures ∙ not-false _ c.before.before.before.before.before.if1.false) c.before.before.before.before.if2.false c.before.before.before.if3.false
+    ∙ note_4 _ _ _ _ _ _ (sym c.before.before.before.before.before.before.can-read.ensures ∙ not-false _ c.before.before.before.before.before.if1.false) c.before.before.before.before.if2.false c.before.before.before.if3.false
 
 pub can_note_spec : {M : Type 1} → statement M
 can_note_spec = tie.close (tie.spec can_read_requires returns returns_2 returns_3 steps_past_requires mul_lies_in lies_in_requires returns_4)

@@ -3,7 +3,7 @@ use borrow.Author.Rules.{rules}
 use native.Mathlib.Omega.{arith}
 use mathlib.Core.Path.{sym, ◌∙◌}
 use borrow.Author.Tests.{not-true, not-false}
-use Rattle.walks.proofs.SearchTests.{notes_few, search_1, search_2, search_3, search-4, search-5, search-6}
+use Rattle.walks.proofs.SearchTests.{notes_few, search_1, search_2, search_3, search_4, search_5, search_6}
 use Rattle.walks.proofs.doors.can_search.Statement.{statement}
 use Rattle.walks.proofs.doors.can_search.Tie as tie
 
@@ -20,7 +20,7 @@ add_if4 : tie.Need-overflow-add-if4
 add_if4 c = search rules
 
 returns_4 : tie.Need-returns-4
-returns_4 c = search-4 _ _ _ _ c.before.before.before.before.before.if1.false c.before.before.before.if2.false c.before.before.if3.false c.if4.true
+returns_4 c = search_4 _ _ _ _ c.before.before.before.before.before.if1.false c.before.before.before.if2.false c.before.before.if3.false c.if4.true
 
 add_size : tie.Need-overflow-add-size
 add_size c = search rules
@@ -35,13 +35,13 @@ lies_in_requires : tie.Need-lies-in-requires
 lies_in_requires c κs = search rules
 
 returns_5 : tie.Need-returns-5
-returns_5 c = search-5 _ _ _ _ c.before.before.before.before.before.before.before.before.before.if1.false c.before.before.before.before.before.before.before.if2.false c.before.before.before.before.before.before.if3.false c.before.before.before.before.if4.false (sym c.before.lies_in.ensures ∙ not-true _ c.if5.true)
+returns_5 c = search_5 _ _ _ _ c.before.before.before.before.before.before.before.before.before.if1.false c.before.before.before.before.before.before.before.if2.false c.before.before.before.before.before.before.if3.false c.before.before.before.before.if4.false (sym c.before.lies_in.ensures ∙ not-true _ c.if5.true)
 
 lies_in_requires_2 : tie.Need-lies-in-requires-2
 lies_in_requires_2 c κs = search rules
 
 returns_6 : tie.Need-returns-6
-returns_6 c = c.lies-in2.ensures ∙ search-6 _ _ _ _ c.before.before.before.before.before.before.before.before.before.before.if1.false c.before.before.before.before.before.before.before.before.if2.false c.before.before.before.before.before.before.before.if3.false c.before.before.before.before.before.if4.false (sym c.before.before.lies_in.ensures ∙ not-false _ c.before.if5.false)
+returns_6 c = c.lies-in2.ensures ∙ search_6 _ _ _ _ c.before.before.before.before.before.before.before.before.before.before.if1.false c.before.before.before.before.before.before.before.before.if2.false c.before.before.before.before.before.before.before.if3.false c.before.before.before.before.before.if4.false (sym c.before.before.lies_in.ensures ∙ not-false _ c.before.if5.false)
 
 pub can_search_spec : {M : Type 1} → statement M
 can_search_spec = tie.close (tie.spec returns returns_2 returns_3 add_if4 returns_4 add_size add_size_2 mul_size lies_in_requires returns_5 lies_in_requires_2 returns_6)

@@ -21,7 +21,7 @@ find_end_requires : tie.Need-find-end-requires
 find_end_requires c κs =
     let a = end_facts _ _ _ _ _ (sym c.before.can-end.ensures ∙ not-false _ c.if1.false) in
     let r = a.read in
-    (well_formed_sound _ r.form, (a.near, a.on-lines, a.few, r.within, omega (arith, r.behind, r.within)))
+    (well_formed_sound _ r.form, (a.near, a.on_lines, a.few, r.within, omega (arith, r.behind, r.within)))
 
 returns_2 : tie.Need-returns-2
 returns_2 c = rw (sym c.before.before.can-end.ensures ∙ not-false _ c.before.if1.false) c.find-end.ensures

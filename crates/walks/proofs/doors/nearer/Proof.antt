@@ -3,7 +3,7 @@ use borrow.Author.Rules.{rules}
 use mathlib.Core.Path.{sym, ◌∙◌}
 use borrow.Author.Tests.{not-true, not-false}
 use Rattle.plans.proofs.FormLaws.{well_formed_sound}
-use Rattle.walks.proofs.DoorTests.{step-facts}
+use Rattle.walks.proofs.DoorTests.{step_facts}
 use Rattle.walks.proofs.doors.nearer.Statement.{statement}
 use Rattle.walks.proofs.doors.nearer.Tie as tie
 
@@ -18,7 +18,7 @@ returns c = rw (sym c.before.before.can-step.ensures ∙ not-true _ c.before.if1
 
 nearer_requires : tie.Need-nearer-requires
 nearer_requires c κs =
-    let a = step-facts _ _ _ _ (sym c.before.can-step.ensures ∙ not-false _ c.if1.false) in
+    let a = step_facts _ _ _ _ (sym c.before.can-step.ensures ∙ not-false _ c.if1.false) in
     (well_formed_sound _ a.0.form, a.1, a.0.within)
 
 returns_2 : tie.Need-returns-2

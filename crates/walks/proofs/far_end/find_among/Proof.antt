@@ -6,7 +6,7 @@ use Rattle.plans.specs.Plans.{rows_in, row_size, state_size, RowFits}
 use Rattle.plans.proofs.PlanSizes.{rows_few, part_fits}
 use Rattle.states.proofs.SizeLaws.{row_within}
 use Rattle.stacks.proofs.StackLaws.{row_below}
-use Rattle.walks.proofs.Picking.{Missed, missed_none, missed_more, missed-picked, row-picked}
+use Rattle.walks.proofs.Picking.{Missed, missed_none, missed_more, missed_picked, row_picked}
 use Rattle.walks.proofs.far_end.find_among.Statement.{statement}
 use Rattle.walks.proofs.far_end.find_among.Tie as tie
 
@@ -115,7 +115,7 @@ returns c =
     let l = r.before.before.before.loop in
     let o = r.row_in.ensures in
     let f = c.before.before.before.first_of in
-    row-picked a.work.now a.slack a.base a.plan a.rows.state a.gaps a.t l.row r.row_in.result.lo r.row_in.result.hi _
+    row_picked a.work.now a.slack a.base a.plan a.rows.state a.gaps a.t l.row r.row_in.result.lo r.row_in.result.hi _
     r.row_in.result.at _ o.0 o.1 o.2 refl refl a.rows.first a.rows.past f.result _ refl refl refl refl l.invariant.0 r.before.if1.true
     (below r) (omega (arith, o.1, (fits r).wide)) c.before.if2.true (f.ensures.1 c.before.if2.true)
 
@@ -145,7 +145,7 @@ returns_2 : tie.Need-returns-2 invariant_loop decreases_loop
 returns_2 c =
     let a = c.before.before.before.before.args in
     let l = c.before.before.loop in
-    missed-picked a.work.now a.slack a.base a.plan a.rows.state a.gaps a.t a.rows.first a.rows.past l.row _ c.if1.false
+    missed_picked a.work.now a.slack a.base a.plan a.rows.state a.gaps a.t a.rows.first a.rows.past l.row _ c.if1.false
     l.invariant.2 (omega arith) refl
 
 pub find_among_spec : {M : Type 1} → statement M

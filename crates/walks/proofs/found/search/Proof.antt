@@ -4,7 +4,7 @@ use mathlib.Core.Path.{◌≡◌}
 use native.Mathlib.Omega.{arith}
 use Rattle.basics.proofs.Numbers.{rows_fit}
 use Rattle.walks.specs.Searching.{term_at, Possible, Searched}
-use Rattle.walks.proofs.Searching.{searched_none, searched-more, searched-all}
+use Rattle.walks.proofs.Searching.{searched_none, searched_more, searched_all}
 use Rattle.walks.proofs.found.search.Statement.{statement}
 use Rattle.walks.proofs.found.search.Tie as tie
 
@@ -82,12 +82,12 @@ loop_again c =
     let l = c.before.before.before.before.before.loop in
     let a = c.before.before.before.before.before.before.before.before.before.before.args in
     let possible : Possible a.notes.steps a.spare a.rank l.l = record { of_path = omega (arith, l.invariant.0); behind = omega (arith, l.invariant.0); ahead = omega (arith, l.invariant.1) } in
-    (l.invariant.0, omega (arith, l.invariant.1), omega arith, searched-more _ _ _ _ _ _ _ _ _ _ possible l.invariant.3 c.search-row.ensures)
+    (l.invariant.0, omega (arith, l.invariant.1), omega arith, searched_more _ _ _ _ _ _ _ _ _ _ possible l.invariant.3 c.search-row.ensures)
 
 returns : tie.Need-returns invariant_loop decreases_loop
 returns c =
     let l = c.before.loop in
-    searched-all _ _ _ _ _ _ _ _ _ _ (omega (arith, l.invariant.0)) l.invariant.3
+    searched_all _ _ _ _ _ _ _ _ _ _ (omega (arith, l.invariant.0)) l.invariant.3
 
 pub search_spec : {M : Type 1} → statement M
 search_spec =

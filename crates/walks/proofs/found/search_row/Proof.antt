@@ -4,7 +4,7 @@ use mathlib.Core.Path.{◌≡◌}
 use mathlib.Core.Logic.{⊎_elim}
 use native.Mathlib.Omega.{arith}
 use Rattle.walks.specs.Searching.{shared_at, RowSearched}
-use Rattle.walks.proofs.Searching.{row_none, row_kept, row-better, shared_is}
+use Rattle.walks.proofs.Searching.{row_none, row_kept, row_better, shared_is}
 use Rattle.walks.proofs.found.search_row.Statement.{statement}
 use Rattle.walks.proofs.found.search_row.Tie as tie
 
@@ -62,7 +62,7 @@ loop_again c =
     let is = shared_is _ _ _ _ _ _ v.result a.result a.ensures v.ensures in (
       omega arith,
       ⊎_elim
-          (λ w. rw w.1 (row-better _ _ _ _ _ _ l.invariant.1 v.result is w.0.taken))
+          (λ w. rw w.1 (row_better _ _ _ _ _ _ l.invariant.1 v.result is w.0.taken))
           (λ w. rw w.1 (row_kept _ _ _ _ _ _ l.invariant.1 (omega (arith, is, w.0.left))))
           c.if1.branch,
     )

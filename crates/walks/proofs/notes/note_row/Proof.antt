@@ -8,7 +8,7 @@ use lib.ListN.{length, length-set}
 use Rattle.basics.proofs.Numbers.{rows_fit}
 use Rattle.states.proofs.SizeLaws.{row_small}
 use Rattle.walks.specs.Noting.{Lifted, FromRow, row_ended}
-use Rattle.walks.proofs.Noting.{row_lifted_none, row-lifted-more, highest_cells}
+use Rattle.walks.proofs.Noting.{row_lifted_none, row_lifted_more, highest_cells}
 use Rattle.walks.proofs.notes.note_row.Statement.{statement}
 use Rattle.walks.proofs.notes.note_row.Tie as tie
 
@@ -91,7 +91,7 @@ loop_again c =
       omega arith,
       omega (arith, l.invariant.1, add-mul l.j 1 a.plan.across),
       length-set l.notes (a.to + l.j) _ ∙ l.invariant.2,
-      row-lifted-more (row_ended a.work.now a.slack key a.at a.plan.across) lo (lo + n) a.to l.j _ a.notes.now l.notes
+      row_lifted_more (row_ended a.work.now a.slack key a.at a.plan.across) lo (lo + n) a.to l.j _ a.notes.now l.notes
           (omega (arith, s.requires, l.invariant.2)) l.invariant.3
           (highest_cells a.work.now a.slack key a.at a.plan.across l.j lo (lo + n) l.from (a.row.at + a.row.lo) n _ _ (omega arith)
           (omega arith) (omega (arith, l.invariant.1)) (omega arith) c.before.highest.ensures),

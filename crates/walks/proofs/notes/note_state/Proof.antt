@@ -9,7 +9,7 @@ use Rattle.states.proofs.SizeLaws.{row_within}
 use Rattle.stacks.proofs.StackLaws.{row_below, state_below}
 use Rattle.walks.specs.Noting.{Lifted, FromState}
 use Rattle.walks.specs.Endings.{ended_in}
-use Rattle.walks.proofs.Noting.{steps_fit, state_lifted_none, state-lifted-more, row_in_state}
+use Rattle.walks.proofs.Noting.{steps_fit, state_lifted_none, state_lifted_more, row_in_state}
 use Rattle.walks.proofs.notes.note_state.Statement.{statement}
 use Rattle.walks.proofs.notes.note_state.Tie as tie
 
@@ -126,7 +126,7 @@ loop_again c =
       omega (arith, c.before.before.before.before.before.before.before.before.loop-test.true),
       omega (arith, l.invariant.1, add-mul l.m 1 (row_size a.plan)),
       n.auto.0 ∙ l.invariant.2,
-      state-lifted-more a.plan (ended_in a.work.now a.slack a.base a.plan a.e) a.to a.e l.m a.notes.now l.notes _ l.invariant.3
+      state_lifted_more a.plan (ended_in a.work.now a.slack a.base a.plan a.e) a.to a.e l.m a.notes.now l.notes _ l.invariant.3
           (row_in_state a.plan a.slack a.to a.e l.m l.at a.base _ _ _ _ a.work.now l.notes _ l.invariant.1 row.ensures.0 row.ensures.1 row.ensures.2
           c.before.before.before.before.before.before.before.steps-in.ensures n.ensures),
     )

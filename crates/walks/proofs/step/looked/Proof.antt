@@ -5,7 +5,7 @@ use borrow.Author.Rules.{rules}
 use Rattle.plans.proofs.PlanSizes.{part_fits}
 use Rattle.states.proofs.SizeLaws.{row_within}
 use Rattle.stacks.proofs.StackLaws.{row_below}
-use Rattle.walks.proofs.Picking.{looked-under, looked-over, looked-low, looked-high}
+use Rattle.walks.proofs.Picking.{looked_under, looked_over, looked_low, looked_high}
 use Rattle.walks.proofs.step.looked.Statement.{statement}
 use Rattle.walks.proofs.step.looked.Tie as tie
 
@@ -16,13 +16,13 @@ returns : tie.Need-returns
 returns c =
     let a = c.before.before.before.before.args in
     let o = c.before.before.row_in.ensures in
-    looked-under a.work.now a.base a.plan a.state a.row a.past a.gaps a.t _ refl _ _ o.0 o.1 (omega arith) c.if1.true
+    looked_under a.work.now a.base a.plan a.state a.row a.past a.gaps a.t _ refl _ _ o.0 o.1 (omega arith) c.if1.true
 
 returns_2 : tie.Need-returns-2
 returns_2 c =
     let a = c.before.before.before.before.before.before.args in
     let o = c.before.before.before.before.row_in.ensures in
-    looked-over a.work.now a.base a.plan a.state a.row a.past a.gaps a.t _ refl _ _ o.0 o.1 (omega arith) c.if2.true
+    looked_over a.work.now a.base a.plan a.state a.row a.past a.gaps a.t _ refl _ _ o.0 o.1 (omega arith) c.if2.true
 
 mul_at : tie.Need-overflow-mul-at
 mul_at c =
@@ -101,7 +101,7 @@ returns_3 : tie.Need-returns-3
 returns_3 c =
     let a = c.before.before.before.before.before.before.before.before.before.before.args in
     let o = c.before.before.before.before.before.before.before.before.row_in.ensures in
-    looked-low a.work.now a.base a.plan a.state a.row a.past a.gaps a.t _ refl _ _ o.0 o.1 _ _ refl refl c.before.before.before.before.before.before.if1.false (omega arith) c.if3.true
+    looked_low a.work.now a.base a.plan a.state a.row a.past a.gaps a.t _ refl _ _ o.0 o.1 _ _ refl refl c.before.before.before.before.before.before.if1.false (omega arith) c.if3.true
 
 sub_t14 : tie.Need-overflow-sub-t14
 sub_t14 c = search rules
@@ -111,7 +111,7 @@ returns_4 c =
     let s = c.before.before.before.before.before.before.before.before.before.before in
     let a = s.args in
     let o = c.before.before.before.before.before.before.before.before.row_in.ensures in
-    looked-high a.work.now a.base a.plan a.state a.row a.past a.gaps a.t _ refl _ _ o.0 o.1 _ _ refl refl c.before.before.before.before.before.before.if1.false refl refl refl
+    looked_high a.work.now a.base a.plan a.state a.row a.past a.gaps a.t _ refl _ _ o.0 o.1 _ _ refl refl c.before.before.before.before.before.before.if1.false refl refl refl
     s.requires.1.1 c.before.before.before.before.if2.false (omega (arith, o.1, (s.requires.0.fits a.state a.row s.requires.1.1 s.requires.1.0).wide)) c.if3.false
 
 pub looked_spec : {M : Type 1} → statement M

@@ -1,5 +1,5 @@
 -- `nearer` meets its contract: the first of the three steps that leads to a number high enough.
-use Rattle.walks.proofs.Picking.{first_picked, second-picked, third-picked}
+use Rattle.walks.proofs.Picking.{first_picked, second_picked, third_picked}
 use Rattle.walks.proofs.step.nearer.Statement.{statement}
 use Rattle.walks.proofs.step.nearer.Tie as tie
 
@@ -22,7 +22,7 @@ tapped_requires_2 c κs =
 returns_2 : tie.Need-returns-2
 returns_2 c =
     let a = c.before.before.before.before.before.before.before.before.before.args in
-    second-picked _ a.plan a.stand _ a.t _ c.before.before.before.before.before.before.before.tapped.ensures c.before.before.before.before.if1.false _ c.before.before.before.tapped2.ensures c.if2.true
+    second_picked _ a.plan a.stand _ a.t _ c.before.before.before.before.before.before.before.tapped.ensures c.before.before.before.before.if1.false _ c.before.before.before.tapped2.ensures c.if2.true
 
 tapped_requires_3 : tie.Need-tapped-requires-3
 tapped_requires_3 c κs =
@@ -33,7 +33,7 @@ tapped_requires_3 c κs =
 returns_3 : tie.Need-returns-3
 returns_3 c =
     let a = c.before.before.before.before.before.before.before.before.before.before.args in
-    third-picked _ a.plan a.stand _ a.t _ c.before.before.before.before.before.before.before.before.tapped.ensures c.before.before.before.before.before.if1.false _ c.before.before.before.before.tapped2.ensures c.before.if2.false _ c.tapped3.ensures
+    third_picked _ a.plan a.stand _ a.t _ c.before.before.before.before.before.before.before.before.tapped.ensures c.before.before.before.before.before.if1.false _ c.before.before.before.before.tapped2.ensures c.before.if2.false _ c.tapped3.ensures
 
 pub nearer_spec : {M : Type 1} → statement M
 nearer_spec =

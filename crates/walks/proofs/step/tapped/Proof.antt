@@ -1,7 +1,7 @@
 -- `tapped` meets its contract: the row is so many states and rows back, where there are so many.
 use native.Mathlib.Omega.{arith}
 use borrow.Author.Rules.{rules}
-use Rattle.walks.proofs.Picking.{tap-looked, tap_row}
+use Rattle.walks.proofs.Picking.{tap_looked, tap_row}
 use Rattle.walks.proofs.step.tapped.Statement.{statement}
 use Rattle.walks.proofs.step.tapped.Tie as tie
 
@@ -38,7 +38,7 @@ looked_requires c κs =
 returns_3 : tie.Need-returns-3
 returns_3 c =
     let a = c.before.before.before.before.before.before.before.before.before.before.before.args in
-    tap-looked _ a.plan a.stand a.y a.x a.t c.before.before.before.before.before.before.before.before.before.states-back.result c.before.before.before.before.before.before.before.before.rows_back.result c.before.before.before.before.before.before.before.before.before.states-back.ensures c.before.before.before.before.before.before.before.before.rows_back.ensures
+    tap_looked _ a.plan a.stand a.y a.x a.t c.before.before.before.before.before.before.before.before.before.states-back.result c.before.before.before.before.before.before.before.before.rows_back.result c.before.before.before.before.before.before.before.before.before.states-back.ensures c.before.before.before.before.before.before.before.before.rows_back.ensures
     _ c.before.before.before.before.before.before.if1.false c.before.before.before.before.if2.false c.looked.ensures
 
 pub tapped_spec : {M : Type 1} → statement M

@@ -17,7 +17,7 @@ use Rattle.plate.specs.Within.{within}
 use Rattle.plate.specs.declared.walker.Walker.{Walker}
 use Rattle.plate.specs.Sizes.{GoodSize}
 use Rattle.plate.proofs.Sizes.{good_size}
-use Rattle.plate.proofs.WalkerSteps.{size_leaves, place-leaves, no-direction-leaves, no-number-leaves, past-column-leaves, past-row-leaves, walker-moves}
+use Rattle.plate.proofs.WalkerSteps.{size_leaves, place_leaves, no_direction_leaves, no_number_leaves, past_column_leaves, past_row_leaves, walker_moves}
 use Rattle.plate.proofs.walker.Walker.step.Statement.{statement}
 use Rattle.plate.proofs.walker.Walker.step.Tie as tie
 
@@ -71,7 +71,7 @@ mul_if2 : tie.Need-overflow-mul-if2
 mul_if2 c = omega (arith, (sized c).few)
 
 returns_2 : tie.Need-returns-2
-returns_2 c = place-leaves _ _ (not_bad c.before) c.if2.true
+returns_2 c = place_leaves _ _ (not_bad c.before) c.if2.true
 
 index_of_requires : tie.Need-index-of-requires
 index_of_requires c κs = search rules
@@ -95,18 +95,18 @@ shifted_requires_2 : tie.Need-shifted-requires-2
 shifted_requires_2 c κs = let e = c.before.before.before.before.before in omega (arith, div-le_self e.before.before.args.self.place e.before.before.args.self.width, (sized e).few, c.before.before.before.before.if2.false)
 
 returns_3 : tie.Need-returns-3
-returns_3 c = let d = c.before in no-direction-leaves _ _ (not_bad (start d)) (rw (index_is d) at c.if3.true)
+returns_3 c = let d = c.before in no_direction_leaves _ _ (not_bad (start d)) (rw (index_is d) at c.if3.true)
 
 returns_4 : tie.Need-returns-4
-returns_4 c = let d = c.before.before in no-number-leaves _ _ (not_bad (start d)) (rw (index_is d) at c.before.if3.false) c.if4.true
+returns_4 c = let d = c.before.before in no_number_leaves _ _ (not_bad (start d)) (rw (index_is d) at c.before.if3.false) c.if4.true
 
 returns_5 : tie.Need-returns-5
 returns_5 c = let d = c.before.before.before in
-    past-column-leaves _ _ (not_bad (start d)) (rw (index_is d) at c.before.before.if3.false) c.before.if4.false (on_plate d) _ _ (column_is d) (row_is d) c.if5.true
+    past_column_leaves _ _ (not_bad (start d)) (rw (index_is d) at c.before.before.if3.false) c.before.if4.false (on_plate d) _ _ (column_is d) (row_is d) c.if5.true
 
 returns_6 : tie.Need-returns-6
 returns_6 c = let d = c.before.before.before.before in
-    past-row-leaves _ _ (not_bad (start d)) (rw (index_is d) at c.before.before.before.if3.false) c.before.before.if4.false (on_plate d) _ _ (column_is d) (row_is d) c.before.if5.false c.if6.true
+    past_row_leaves _ _ (not_bad (start d)) (rw (index_is d) at c.before.before.before.if3.false) c.before.before.if4.false (on_plate d) _ _ (column_is d) (row_is d) c.before.if5.false c.if6.true
 
 mul_t10 : tie.Need-overflow-mul-t10
 mul_t10 c = let d = c.before.before.before.before in
@@ -118,7 +118,7 @@ add_t13 c = let d = c.before.before.before.before in
 
 returns_7 : tie.Need-returns-7
 returns_7 c = let d = c.before.before.before.before in
-    walker-moves _ _ (not_bad (start d)) (rw (index_is d) at c.before.before.before.if3.false) c.before.before.if4.false (on_plate d) _ _ (column_is d) (row_is d) c.before.if5.false c.if6.false
+    walker_moves _ _ (not_bad (start d)) (rw (index_is d) at c.before.before.before.if3.false) c.before.before.if4.false (on_plate d) _ _ (column_is d) (row_is d) c.before.if5.false c.if6.false
 
 pub step_spec : {M : Type 1} → statement M
 step_spec =
