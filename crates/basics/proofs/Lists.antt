@@ -59,7 +59,7 @@ flat_map_find g (x ∷ xs) y i =
     ⊎_elim (λ a. (x, mathlib.Core.List.Memᴰ.head refl, a))
     (λ b. let r = flat_map_find g xs y b in (r.0, mathlib.Core.List.Memᴰ.tail r.1, r.2)) (mathlib.Core.List.Memᴰ.append_cases (g x) i)
 
-pub flat_map-keep : {A B : Type 0} (g : A → List B) {xs : List A} (y : B) {x : A} → Memᴰ x xs → Memᴰ y (g x) → Memᴰ y (flat_map g xs)
+pub flat_map-keep : {A B : Type 0} (g : A → List B) (y : B) {x : A} {xs : List A} → Memᴰ x xs → Memᴰ y (g x) → Memᴰ y (flat_map g xs)
 unfolding flat_map
 flat_map-keep g y (mathlib.Core.List.Memᴰ.head {x} {xs} e) i = mathlib.Core.List.Memᴰ.append_left (flat_map g xs) (subst (λ z. Memᴰ y (g z)) e i)
 flat_map-keep g y (mathlib.Core.List.Memᴰ.tail {x} {xs} m) i = mathlib.Core.List.Memᴰ.append_right (g x) (flat_map-keep g y m i)
@@ -72,7 +72,7 @@ map_find f (x ∷ xs) y i =
     ⊎_elim (λ e. (x, mathlib.Core.List.Memᴰ.head refl, e))
     (λ b. let r = map_find f xs y b in (r.0, mathlib.Core.List.Memᴰ.tail r.1, r.2)) (mathlib.Core.List.Memᴰ.cases_cons i)
 
-pub map-keep : {A B : Type 0} (f : A → B) {xs : List A} {x : A} → Memᴰ x xs → Memᴰ (f x) (map f xs)
+pub map-keep : {A B : Type 0} (f : A → B) {x : A} {xs : List A} → Memᴰ x xs → Memᴰ (f x) (map f xs)
 map-keep f (mathlib.Core.List.Memᴰ.head e) = mathlib.Core.List.Memᴰ.head (ap f e)
 map-keep f (mathlib.Core.List.Memᴰ.tail i) = mathlib.Core.List.Memᴰ.tail (map-keep f i)
 
@@ -205,6 +205,7 @@ pub one_of_three : {A : Type 0} (P : A → Type 0) {a b c x : A} → P a → P b
 one_of_three P u v w (mathlib.Core.List.Memᴰ.head e) = rw e u
 one_of_three P u v w (mathlib.Core.List.Memᴰ.tail (mathlib.Core.List.Memᴰ.head e)) = rw e v
 one_of_three P u v w (mathlib.Core.List.Memᴰ.tail (mathlib.Core.List.Memᴰ.tail (mathlib.Core.List.Memᴰ.head e))) = rw e w
+one_of_three P u v w (mathlib.Core.List.Memᴰ.tail (mathlib.Core.List.Memᴰ.tail (mathlib.Core.List.Memᴰ.tail i))) = absurd (mathlib.Core.List.Memᴰ.not-nil i)
 
 -- ---- an element by its index
 

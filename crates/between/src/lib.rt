@@ -4,6 +4,8 @@
 // These are the filtered lowest and the filtered highest plate, in both modes, since filtering keeps the
 // order of plates. So the call is two filters; what it adds is that all checks of both, and its own, come
 // before the first store.
+#![tactic(auto)]
+
 ghost use Rattle.std.specs.Prelude.{◌≡◌, length};
 ghost use Rattle.plate.specs.Opening.{filtered};
 ghost use Rattle.plate.specs.Refusals.{IfAccepted};

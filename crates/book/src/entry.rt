@@ -2,7 +2,7 @@
 
 // The plate's number, the place of a pixel on it and the mode: what an entry is about. At most one entry of a
 // key stands in a book that calls have filled.
-#[derive(Drop)]
+#[derive(Clone, Copy)]
 pub struct Key {
     pub plate: u16,
     pub place: usize,
@@ -12,7 +12,7 @@ pub struct Key {
 // A finding with its serial number: the key, and the level and the direction (its bit; document 01: way) that
 // the trace has found.
 #[repr(C)]
-#[derive(Drop)]
+#[derive(Clone, Copy)]
 pub struct Entry {
     pub serial: u32,
     pub plate: u16,

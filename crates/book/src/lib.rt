@@ -4,6 +4,8 @@
 // It knows nothing of plates and traces: an entry is a few numbers. A refused call hands the book back as it
 // came, to the last slot. An accepted one hands back a book that is settled to the last slot as well: where no
 // entry stands, the slot is empty. Books can be put together by hand, so every call looks before it reads.
+#![tactic(auto)]
+
 ghost use Rattle.std.specs.Prelude.{◌≡◌, [], ◌≤◌};
 ghost use Rattle.plate.specs.Refusals.{judged};
 ghost use Rattle.plate.specs.Answers.{answered};

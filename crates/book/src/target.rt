@@ -4,7 +4,7 @@ ghost use Rattle.book.specs.Entries.{is_meant};
 
 use crate::entry::{Entry, Key};
 
-#[derive(Drop)]
+#[derive(Clone, Copy)]
 pub enum Target {
     OfKey(Key),
     OfSerial(u32),

@@ -3,6 +3,8 @@
 // 02, N1, one case for each refusal number of section 5 that these calls have and for N5's, what the walk
 // of document 02, N4 holds after each pixel, and the directions' steps of section 2. Each case prints its name and what
 // came back; the file stdout beside src/ has what the papers say.
+#![tactic(auto)]
+
 use correction::FirstFault;
 use libc::STDOUT_FILENO;
 use plate::{Answer, Made, Moved, Setting, Walker};

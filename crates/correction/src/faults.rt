@@ -12,14 +12,14 @@ pub const MIN_CORRECTION: i32 = -16384;
 pub const MAX_CORRECTION: i32 = 16383;
 
 // The first place with a fault of one kind, or that there is none.
-#[derive(Drop)]
+#[derive(Clone, Copy)]
 pub enum FirstFault {
     Nowhere,
     At(usize),
 }
 
 // The faults of the pixels so far. Each kind is held by itself, so that neither hides the other.
-#[derive(Drop)]
+#[derive(Clone, Copy)]
 pub struct Faults {
     pub reading: FirstFault,
     pub correction: FirstFault,

@@ -4,6 +4,8 @@
 // faults.rt walks over readings and corrections and finds the first bad one of either kind (document 02, N4);
 // fill.rt makes the levels, once there is none. What a corrected level and a bad reading are is defined with the
 // rest of document 01, in the crate plate.
+#![tactic(auto)]
+
 ghost use Rattle.std.specs.Prelude.{◌≡◌, length};
 ghost use Rattle.plate.specs.Levels.{corrected_plate};
 ghost use Rattle.plate.specs.Refusals.{correction_verdict};

@@ -3,6 +3,8 @@
 // include/diilvak.h has the declarations for C, with all that a caller has to know. The result of a
 // call that can be refused is the refusal's number, 0 where it is done; the other values go to lent
 // numbers.
+#![tactic(auto)]
+
 ghost use Rattle.std.specs.Prelude.{◌≡◌, length as size};
 ghost use Rattle.plate.specs.Levels.{corrected_plate};
 ghost use Rattle.plate.specs.Opening.{filtered};

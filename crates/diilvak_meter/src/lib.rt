@@ -1,5 +1,7 @@
 // The lamp-meter add-on for C and Rust: a library of its own, apart from `diilvak`. include/diilvak_meter.h has
 // the declarations for C, with all that a caller has to know.
+#![tactic(auto)]
+
 ghost use Rattle.std.specs.Prelude.{◌≡◌};
 ghost use Rattle.plate.specs.Telling.{number_of, value_after};
 ghost use Rattle.meter.specs.Corrections.{meter_verdict};
@@ -9,7 +11,7 @@ use meter::{Correction, Figure, Meter};
 
 // A figure as C has it. `drifting` is 0 for a steady one, whose second number is not looked at.
 #[repr(C)]
-#[derive(Drop)]
+#[derive(Clone, Copy)]
 pub struct Reported {
     pub first: f32,
     pub second: f32,
@@ -18,7 +20,7 @@ pub struct Reported {
 
 // Both figures as C has them.
 #[repr(C)]
-#[derive(Drop)]
+#[derive(Clone, Copy)]
 pub struct Report {
     pub lamp: Reported,
     pub dark: Reported,

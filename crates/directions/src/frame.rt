@@ -12,7 +12,7 @@ ghost use Rattle.directions.specs.Doors.{frame_of, spot_of};
 use frames::Frame;
 
 // A pixel of a frame.
-#[derive(Drop)]
+#[derive(Clone, Copy)]
 pub struct Spot {
     pub line: usize,
     pub pixel: usize,

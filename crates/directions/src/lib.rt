@@ -6,6 +6,8 @@
 // diagonal one, whichever takes less room. keys.rt lays the plate's keys out row after row, gather.rt
 // brings the best numbers back to the plate, direction.rt does all of it; sight.rt is the side of a
 // direction that a trace sees from one pixel. Each door judges its numbers first (fits.rt).
+#![tactic(auto)]
+
 mod direction;
 mod fits;
 mod frame;

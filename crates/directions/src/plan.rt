@@ -11,7 +11,7 @@ use plans::{Plan, Reach};
 
 // The lines from `top` below `bottom` and the pixels from `left` below `right`; and where a walk may start:
 // at one pixel alone, or at all; and up to which key with a gap.
-#[derive(Drop)]
+#[derive(Clone, Copy)]
 pub struct Area {
     pub top: usize,
     pub bottom: usize,
@@ -24,7 +24,7 @@ pub struct Area {
 
 // A direction as it is swept: its place in the step table, whether its lines are rows of the plate, and
 // whether it is swept from the last line back.
-#[derive(Drop)]
+#[derive(Clone, Copy)]
 pub struct Course {
     pub index: usize,
     pub rows: bool,

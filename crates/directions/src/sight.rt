@@ -10,7 +10,7 @@ use plans::{Plan, Reach};
 use plate::Setting;
 
 // The states are numbered from the pixel on; `states` is how many there are.
-#[derive(Drop)]
+#[derive(Clone, Copy)]
 pub struct Sight {
     pub frame: Frame,
     pub plan: Plan,

@@ -4,6 +4,8 @@
 // which there is one instruction where others need two or three. Eights go by value, and each function is
 // one loop over eight places that neither reads nor writes memory of others; so the compiler makes one
 // instruction of it, without a test whether anything overlaps.
+#![tactic(auto)]
+
 ghost use Rattle.std.specs.Prelude.{◌≡◌, ℕ, min, max, get_or};
 ghost use Rattle.eights.specs.Turned.{turned, Standing};
 

@@ -8,6 +8,8 @@
 //
 // A call takes time by the sizes and the setting, and about 182 KB of stack, most of it the best numbers of
 // the pixels. There is no recursion.
+#![tactic(auto)]
+
 ghost use Rattle.std.specs.Prelude.{◌≡◌, length};
 ghost use Rattle.plate.specs.Opening.{filtered};
 ghost use Rattle.plate.specs.Refusals.{filter_verdict};

@@ -2,6 +2,8 @@
 //
 // The trace's checks come first, then the book's, and all of them before the first store: so a call that the
 // book refuses has written no path. Then the trace is accepted, and the book takes its level and its direction.
+#![tactic(auto)]
+
 ghost use Rattle.std.specs.Prelude.{◌≡◌, length};
 ghost use Rattle.plate.specs.Answers.{traced_level, TraceAfter};
 ghost use Rattle.plate.specs.Refusals.{Clear};
@@ -19,7 +21,7 @@ pub use pixel::Pixel;
 use plate::{Answer, Setting, Traced};
 
 // What comes back: the trace's answer, or a refusal (15 and 16 too), and the book.
-#[derive(Drop)]
+#[derive(Clone, Copy)]
 pub struct Entered {
     pub traced: Traced,
     pub book: Book,

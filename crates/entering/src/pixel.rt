@@ -7,7 +7,7 @@ use plate::Setting;
 
 // The plate's number in the book, and the place on it.
 #[repr(C)]
-#[derive(Drop)]
+#[derive(Clone, Copy)]
 pub struct Pixel {
     pub plate: u16,
     pub place: usize,

@@ -1,6 +1,8 @@
 // Tests the filter by document 01's worked plates (section 7), those of sieving twice (sieving.rt), those of
 // a crack's ends (ends.rt) and those known between two levels (bounds.rt): each prints its name and its filtered levels; the file stdout beside src/ has
 // what the papers say.
+#![tactic(auto)]
+
 mod bounds;
 mod ends;
 mod printing;

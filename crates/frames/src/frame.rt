@@ -4,7 +4,7 @@
 
 // The lines lie `leap` places apart on the plate, the pixels of a line `hop`. The lines are counted from
 // the last one where they are flipped, the pixels where they are mirrored.
-#[derive(Drop)]
+#[derive(Clone, Copy)]
 pub struct Frame {
     pub lines: usize,
     pub across: usize,

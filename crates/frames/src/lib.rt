@@ -1,5 +1,7 @@
 // How a direction lies on a plate: its steps as they are read off the table (steps.rt), its lines (frame.rt),
 // and the order of the levels by the mode (keys.rt).
+#![tactic(auto)]
+
 mod frame;
 mod keys;
 mod steps;

@@ -5,7 +5,7 @@ ghost use Rattle.headings.specs.Headings.{shift, Known, bit_of, room_at, reached
 ghost use Rattle.theory.specs.Ranks.{rank};
 
 // A direction, walked on or back, on a plate of this size.
-#[derive(Drop)]
+#[derive(Clone, Copy)]
 pub(crate) struct Heading {
     pub(crate) width: usize,
     pub(crate) height: usize,

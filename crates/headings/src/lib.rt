@@ -4,6 +4,8 @@
 // stands along a direction, how many steps lead on from it, and where a step leads; onward.rt writes a path
 // that needs no more than room, by the indices of trail.rt. doors.rt judges what is handed in. The crate knows
 // sizes and places, and no levels.
+#![tactic(auto)]
+
 mod doors;
 mod heading;
 mod onward;

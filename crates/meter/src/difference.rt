@@ -3,7 +3,7 @@ ghost use Rattle.std.specs.Prelude.{ℕ, pos, ◌-ℤ◌};
 ghost use Rattle.meter.specs.Eighths.{IsEighths};
 
 // The means of both figures, in whole eighths.
-#[derive(Drop)]
+#[derive(Clone, Copy)]
 pub(crate) struct Means {
     pub lamp: f32,
     pub dark: f32,

@@ -4,14 +4,14 @@ ghost use Rattle.meter.specs.Eighths.{Resolves};
 use crate::numbers::{is_quarters, mean};
 
 // Steady: one number; drifting: two numbers, whose mean is taken.
-#[derive(Drop)]
+#[derive(Clone, Copy)]
 pub enum Figure {
     Steady(f32),
     Drifting(f32, f32),
 }
 
 // The number that a figure stands for, or that one of its numbers may not be reported.
-#[derive(Drop)]
+#[derive(Clone, Copy)]
 pub(crate) enum Resolved {
     Mean(f32),
     Bad,

@@ -3,6 +3,8 @@
 // The add-on stands by itself: of the other crates it uses `plate` alone, for the word, the refusal and the
 // definition of the correction that takes the word, and none of them uses it. Means and difference are taken in
 // f32, and each is proved to be exact; the definitions do the same sum in whole eighths over the integers.
+#![tactic(auto)]
+
 ghost use Rattle.std.specs.Prelude.{◌≡◌};
 ghost use Rattle.meter.specs.Corrections.{answered_by, meter_verdict};
 
@@ -17,14 +19,14 @@ pub use figure::Figure;
 use plate::refusal;
 
 // What the meter reports.
-#[derive(Drop)]
+#[derive(Clone, Copy)]
 pub struct Meter {
     pub lamp: Figure,
     pub dark: Figure,
 }
 
 // The correction as a word in two's complement, or a refusal.
-#[derive(Drop)]
+#[derive(Clone, Copy)]
 pub enum Correction {
     Word(u16),
     Refused { number: usize, place: usize },

@@ -1,5 +1,7 @@
 // Plans of sweeps: which rows the states of a sweep have, which pixels and keys a row has, and where a step
 // finds the numbers that it leads on. The crate knows no plate.
+#![tactic(auto)]
+
 mod ends;
 mod form;
 mod plan;

@@ -10,7 +10,7 @@ pub const MARGIN: usize = 16;
 
 // Where the three steps find their numbers: in the row before of the same state (y 0), in the row before
 // of the last state (1) or in the same row of the last state (2); one pixel back, none or one on, plus one.
-#[derive(Drop)]
+#[derive(Clone, Copy)]
 pub struct Reach {
     pub x0: usize,
     pub y0: usize,
@@ -24,7 +24,7 @@ pub struct Reach {
 // pixels are those of a line of the frame, or where rows are `ranked` those of a rank, line plus pixel: lines
 // and ranks are counted on from `origin`, or back from it. Only the lines from `top` below `bottom` and the
 // pixels from `left` below `right` count.
-#[derive(Drop)]
+#[derive(Clone, Copy)]
 pub struct Plan {
     // one plane for each number of gaps, none included
     pub planes: usize,
@@ -54,7 +54,7 @@ pub struct Plan {
 
 // The pixels of a row, from lo below hi, and where the key of pixel 0 stands: rows of keys follow each
 // other, that of a rank past the last line in the place that the rank so many lines before leaves free.
-#[derive(Drop)]
+#[derive(Clone, Copy)]
 pub struct Row {
     pub lo: usize,
     pub hi: usize,

@@ -1,5 +1,5 @@
 // What a call that fills a lent result answers.
-#[derive(Drop)]
+#[derive(Clone, Copy)]
 pub enum Answer {
     Done,
     Refused { number: usize, place: usize },
@@ -7,7 +7,7 @@ pub enum Answer {
 
 // What a trace answers, the path itself being in a lent buffer: the bit of the path's direction
 // (document 01: way) and the pixel's filtered level, or a refusal.
-#[derive(Drop)]
+#[derive(Clone, Copy)]
 pub enum Traced {
     Path { direction: usize, level: i16 },
     Refused { number: usize, place: usize },

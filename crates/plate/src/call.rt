@@ -9,7 +9,7 @@ use crate::setting::{Made, Setting};
 use crate::{refusal, size};
 
 // What a call fills: a result, which has a number for each pixel, or a path, which has L places.
-#[derive(Drop)]
+#[derive(Clone, Copy)]
 pub enum Fills {
     Result,
     Path,
@@ -17,7 +17,7 @@ pub enum Fills {
 
 // The lengths of the buffers that a call is lent: of its input, of the buffer that it fills, and of its
 // work.
-#[derive(Drop)]
+#[derive(Clone, Copy)]
 pub struct Lent {
     pub input: usize,
     pub fills: Fills,

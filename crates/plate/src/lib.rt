@@ -4,6 +4,8 @@
 // closing, the refusal table. The functions here are the leaves: the step table and the walker, the
 // setting, the arithmetic of levels, and the checks that calls have in common. Each answers on every input;
 // none that is public has a `requires`.
+#![tactic(auto)]
+
 mod answer;
 mod call;
 mod level;

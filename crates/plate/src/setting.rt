@@ -9,7 +9,7 @@ use crate::refusal;
 // A setting: the length of a path in pixels, the gaps allowed on it, the set of directions (the sum
 // of their bits; document 01: ways), the mode, 0 for opening and 1 for closing, and whether the two ends of
 // a path may be gaps, 0, or not, 1 (document 02, N5).
-#[derive(Drop)]
+#[derive(Clone, Copy)]
 pub struct Setting {
     pub length: usize,
     pub gaps: usize,
@@ -18,7 +18,7 @@ pub struct Setting {
     pub ends: usize,
 }
 
-#[derive(Drop)]
+#[derive(Clone, Copy)]
 pub enum Made {
     Valid(Setting),
     Refused { number: usize, place: usize },

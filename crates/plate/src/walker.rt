@@ -7,7 +7,7 @@ use crate::{size, steps};
 
 // A walker on a plate of this size, on the pixel at this place, which goes in the direction with
 // this bit.
-#[derive(Drop)]
+#[derive(Clone, Copy)]
 pub struct Walker {
     pub width: usize,
     pub height: usize,
@@ -15,7 +15,7 @@ pub struct Walker {
     pub place: usize,
 }
 
-#[derive(Drop)]
+#[derive(Clone, Copy)]
 pub enum Moved {
     To(Walker),
     Leaves,

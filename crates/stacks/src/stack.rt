@@ -13,7 +13,7 @@ use plans::{MARGIN, Plan};
 use states::Stretch;
 
 // Where the stack begins in the work buffer, for how many states it has room, and how many it has.
-#[derive(Drop)]
+#[derive(Clone, Copy)]
 pub struct Stack {
     pub base: usize,
     pub places: usize,

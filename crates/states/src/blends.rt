@@ -10,7 +10,7 @@ use eights::{NOTHING, greater, lower, turn, turn_all};
 use plans::Row;
 
 // Where pixel 0 of plane 0 finds its three numbers, and where it is.
-#[derive(Drop)]
+#[derive(Clone, Copy)]
 pub struct Taps {
     pub t0: usize,
     pub t1: usize,

@@ -12,6 +12,8 @@
 // ones (rows.rt), each with a zero before and after it, so that no edge is a case of its own. States are made
 // of the one before, several at once, row after row (state.rt), where the numbers that are handed in fit
 // (doors.rt). The crate knows no plate: its contracts speak of any numbers that obey the recursion.
+#![tactic(auto)]
+
 mod blends;
 mod doors;
 mod rows;

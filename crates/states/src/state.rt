@@ -16,7 +16,7 @@ use eights::NOTHING;
 use plans::{MARGIN, Plan, Row, rows_in};
 
 // States that are made at once: from number `first` below `past`.
-#[derive(Drop)]
+#[derive(Clone, Copy)]
 pub struct Stretch {
     pub first: usize,
     pub past: usize,
@@ -24,7 +24,7 @@ pub struct Stretch {
 
 // Where the rows of the number before and of this number begin: the row of this state, then that of the
 // last state where states are linked.
-#[derive(Drop)]
+#[derive(Clone, Copy)]
 pub(crate) struct Slots {
     pub(crate) was: usize,
     pub(crate) now: usize,

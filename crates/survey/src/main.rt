@@ -1,6 +1,8 @@
 // The survey program (document 01, section 6): a plate's text from standard input, the answer to
 // standard output. The buffer is longer than the longest text, so that what it holds is enough to tell
 // a text that is too long. What was read before an input ended or failed is taken for the text.
+#![tactic(auto)]
+
 ghost use Rattle.std.specs.Prelude.{◌≡◌, length};
 
 use libc::{STDIN_FILENO, STDOUT_FILENO};

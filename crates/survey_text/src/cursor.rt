@@ -4,7 +4,7 @@ ghost use Rattle.std.specs.Prelude.{◌≡◌};
 
 // The place of the next line's first byte, that line's number, and 0; or a refusal's number, whose
 // place is then the line.
-#[derive(Drop)]
+#[derive(Clone, Copy)]
 pub(crate) struct Cursor {
     pub(crate) from: usize,
     pub(crate) line: usize,

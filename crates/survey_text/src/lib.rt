@@ -3,6 +3,8 @@
 // specs/ defines on lists of bytes the reading, with its lines and its order of judgement (what a line and a
 // number are is defined in the crate text_lines, which reads them), the lines that are printed (the crate
 // surveying prints them), and the whole answer as one function of the text.
+#![tactic(auto)]
+
 mod asking;
 mod cursor;
 mod line;

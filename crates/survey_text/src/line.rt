@@ -9,7 +9,7 @@ use plate::refusal;
 use text_lines::{Number, Value, edition_in, list_in, number_in, value_at};
 
 // The number of a line, and the cursor behind it.
-#[derive(Drop)]
+#[derive(Clone, Copy)]
 pub(crate) struct NumberLine {
     pub(crate) value: usize,
     pub(crate) next: Cursor,

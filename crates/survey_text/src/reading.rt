@@ -19,7 +19,7 @@ pub const MAX_PLATE: usize = 512;
 const WITH_ENDS: usize = 2;
 
 // A plate's size; 0 by 0 where the cursor carries a refusal.
-#[derive(Drop)]
+#[derive(Clone, Copy)]
 pub(crate) struct SizeLines {
     pub(crate) width: usize,
     pub(crate) height: usize,
@@ -27,7 +27,7 @@ pub(crate) struct SizeLines {
 }
 
 // The setting, and the pixel to trace.
-#[derive(Drop)]
+#[derive(Clone, Copy)]
 pub(crate) struct SettingLines {
     pub(crate) setting: Setting,
     pub(crate) at: usize,
@@ -35,7 +35,7 @@ pub(crate) struct SettingLines {
 }
 
 // What a plate's text says besides its readings and its words; `at` is the pixel to trace.
-#[derive(Drop)]
+#[derive(Clone, Copy)]
 pub struct Header {
     pub width: usize,
     pub height: usize,
@@ -44,7 +44,7 @@ pub struct Header {
 }
 
 // What a text says, or its refusal.
-#[derive(Drop)]
+#[derive(Clone, Copy)]
 pub enum Reading {
     Plate(Header),
     Refused { number: usize, place: usize },

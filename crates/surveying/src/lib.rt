@@ -4,6 +4,8 @@
 //
 // specs/Surveying.antt says what it answers, by survey_text's definition of the answer and theory's of
 // what a trace shows.
+#![tactic(auto)]
+
 ghost use Rattle.std.specs.Prelude.{◌≡◌, ◌≤◌, length};
 ghost use Rattle.plate.specs.Limits.{max_length};
 ghost use Rattle.survey_text.specs.Reading.{max_plate};

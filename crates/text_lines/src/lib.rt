@@ -2,6 +2,8 @@
 // and which number, edition or list of numbers these bytes are.
 //
 // It knows no plate: which lines a text has, and in which order they are judged, is the crate survey_text's.
+#![tactic(auto)]
+
 mod number;
 mod value;
 

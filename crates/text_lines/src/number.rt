@@ -12,7 +12,7 @@ const MAX_NUMBER: usize = 65535;
 
 const BASE: usize = 10;
 
-#[derive(Drop)]
+#[derive(Clone, Copy)]
 pub enum Number {
     Is(usize),
     Bad,

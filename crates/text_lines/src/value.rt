@@ -5,7 +5,7 @@ ghost use Rattle.text_lines.specs.Format.{is, after, named};
 ghost use Rattle.text_lines.specs.Answers.{whether, value_read, Inside};
 
 // Where the value of a line stands: its first byte, and the newline behind it.
-#[derive(Drop)]
+#[derive(Clone, Copy)]
 pub enum Value {
     Between { from: usize, end: usize },
     Bad,

@@ -26,3 +26,4 @@
 //   WalksTo            walks that may end at some pixels only: bounds, one step on, and turned round
 //   Towards            the best walks from one pixel, by a recursion that looks back from where they end
 //   WorkedPlates       the worked plates of documents 01 and 02 hold of the definitions
+#![tactic(auto)]

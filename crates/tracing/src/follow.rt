@@ -23,7 +23,7 @@ use walks::{Stand, gaps_after};
 
 // The walk that is followed: the key at which it counts, the index of the picked pixel in the path, how many
 // steps it has and how many gaps.
-#[derive(Drop)]
+#[derive(Clone, Copy)]
 pub(crate) struct Walk {
     pub(crate) key: u16,
     pub(crate) start: usize,

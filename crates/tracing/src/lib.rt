@@ -8,6 +8,8 @@
 // walks; on a diagonal one they are made again from a stack of states.
 //
 // What is read off a state is told by the crate walks, and what needs sizes and places alone by headings.
+#![tactic(auto)]
+
 ghost use Rattle.std.specs.Prelude.{◌≡◌, length};
 ghost use Rattle.plate.specs.Refusals.{trace_verdict};
 ghost use Rattle.plate.specs.Answers.{traced_level, TraceAfter};

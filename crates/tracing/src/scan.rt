@@ -7,7 +7,7 @@ ghost use Rattle.tracing.specs.Scans.{Sound, ScanOf};
 use plate::Setting;
 
 // What stays the same while one direction is looked at.
-#[derive(Drop)]
+#[derive(Clone, Copy)]
 pub(crate) struct Scan {
     pub(crate) width: usize,
     pub(crate) height: usize,

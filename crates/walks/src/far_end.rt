@@ -11,7 +11,7 @@ use crate::taken::row_in;
 use plans::Plan;
 
 // Some rows of a state: those from `first` below `past`.
-#[derive(Drop)]
+#[derive(Clone, Copy)]
 pub(crate) struct Rows {
     pub(crate) state: usize,
     pub(crate) first: usize,

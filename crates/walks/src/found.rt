@@ -5,7 +5,7 @@ ghost use Rattle.walks.specs.Searching.{shared_at, term_at, RowSearched, Searche
 
 // A path through the picked pixel: the index of its direction, the key at which it counts, and how many
 // of its steps and of its gaps lie before the pixel.
-#[derive(Drop)]
+#[derive(Clone, Copy)]
 pub struct Found {
     pub index: usize,
     pub key: u16,
@@ -15,7 +15,7 @@ pub struct Found {
 
 // The notes of a direction: where those of the walks that end at the pixel begin, where those of the
 // walks that go on from it, and how many steps and gaps a path has.
-#[derive(Drop)]
+#[derive(Clone, Copy)]
 pub struct Notes {
     pub ends: usize,
     pub goes: usize,

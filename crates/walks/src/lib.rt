@@ -5,6 +5,8 @@
 // best path through the pixel (found.rt). The far end of a half is the first pixel where its walks count
 // (far_end.rt), and from a stand (stand.rt) a step leads to a pixel nearer by (step.rt). doors.rt judges what
 // is handed in. The crate knows no plate: its contracts speak of any numbers in the buffer.
+#![tactic(auto)]
+
 mod doors;
 mod ended;
 mod far_end;
