@@ -8,14 +8,13 @@ use mir.ValLaws.{to_z-of_z, to_z_pos}
 use Rattle.plate.specs.Levels.{key}
 use Rattle.basics.proofs.Integers.{widened}
 use Rattle.plate.proofs.Keys.{key_sum, key_bound}
-use Rattle.plate.proofs.level.key_of.Statement.{statement}
-use Rattle.plate.proofs.level.key_of.Tie as tie
+use Rattle.plate.proofs.level.key_of.Goals as goal
 
-cast_result : tie.Need-overflow-cast-result
-cast_result c = rw (to_z-of_z w16 c.args.v c.ranges.v) (widened c.ranges.v)
+pub overflow_cast-result : goal.overflow_cast-result
+overflow_cast-result c = rw (to_z-of_z w16 c.args.v c.ranges.v) (widened c.ranges.v)
 
-add_result : tie.Need-overflow-add-result
-add_result c =
+pub overflow_add-result : goal.overflow_add-result
+overflow_add-result c =
     let v = c.args.v in
     let f = c.ranges.v in
     rw (to_z-of_z w16 v f, to_z-of_z w32 v (widened f), key_sum v f.sfits)
@@ -27,14 +26,11 @@ sum_read v f =
     rw (to_z-of_z w16 v f, to_z-of_z w32 v (widened f), key_sum v f.sfits)
     (to_z_pos w32 (key v) (omega (arith, key_bound v f.sfits)))
 
-cast_result_2 : tie.Need-overflow-cast-result-2
-cast_result_2 c =
+pub overflow_cast-result-2 : goal.overflow_cast-result-2
+overflow_cast-result-2 c =
     let v = c.args.v in
     let f = c.ranges.v in
     rw (sum_read v f) (tt, record { fits = omega (arith, key_bound v f.sfits) })
 
-returns : tie.Need-returns
+pub returns : goal.returns
 returns c = rw (sum_read c.args.v c.ranges.v)
-
-pub key_of_spec : {M : Type 1} → statement M
-key_of_spec = tie.close (tie.spec cast_result add_result cast_result_2 returns)
