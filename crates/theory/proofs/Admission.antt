@@ -58,6 +58,8 @@ pub ends_on_path : (path : List ℕ) (p : ℕ) → Memᴰ p (ends_of path) → M
 unfolding ends_of
 ends_on_path (q ∷ path) p (Memᴰ.head e) = Memᴰ.head e
 ends_on_path (q ∷ path) p (Memᴰ.tail (Memᴰ.head e)) = rw e (last_on_path q path)
+ends_on_path [] p i = absurd (mathlib.Core.List.Memᴰ.not-nil i)
+ends_on_path (q ∷ path) p (Memᴰ.tail (Memᴰ.tail i)) = absurd (mathlib.Core.List.Memᴰ.not-nil i)
 
 -- a test that is asked with `ends` 1 alone
 asked : (ends : ℕ) (test : Bool) → (ends ≡ 1 → T test) → T (not (eqb ends 1) || test)

@@ -33,6 +33,7 @@ module _ (next back : ℕ → List ℕ) (turn : (p q : ℕ) → Memᴰ q (next p
   cut_on : {x y m a b : ℕ} {ps qs rs : List ℕ} → Walk next b y qs → Memᴰ x qs → Walk back a y rs → a + b ≡ m →
       ps ≡ reverse_aux (tail rs) qs → Cut next back m x ps
   cut_on stop (Memᴰ.head e) v s c = here (sym e) stop v s c
+  cut_on stop (Memᴰ.tail i) v s c = absurd (mathlib.Core.List.Memᴰ.not-nil i)
   cut_on (go e' w) (Memᴰ.head e) v s c = here (sym e) (go e' w) v s c
   cut_on (go e' w) (Memᴰ.tail i) v s c = cut_on w i (go (turn _ _ e') v) (omega arith) (c ∙ moved _ v)
 

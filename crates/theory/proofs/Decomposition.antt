@@ -1,7 +1,7 @@
 -- The decomposition that the engine computes is the opening of the definitions: formula (4) of source 001, taken on levels instead of on
 -- thresholds, and over all l and j. Its formula (2) lets every start of a path count with no gap; that slip is mended by `best_walk`, whose recursion
 -- (3) holds with no gap left too. A path counts at a level just when its walk counts at the level's key, and a walk through x is split there.
-use Prim.Native.Nat.{ℕ, suc, ◌+◌, ◌-◌, ◌*◌, ◌≤◌, ◌<◌, max}
+use Prim.Native.Nat.{ℕ, suc, ◌+◌, ◌*◌, ◌≤◌, ◌<◌, max}
 use mathlib.Core.Path.{◌≡◌, refl, ap}
 use mathlib.Core.List.{List, [], ◌∷◌, Memᴰ}
 use native.Mathlib.Omega.{arith}

@@ -83,6 +83,7 @@ module _ (W H bit : ℕ) where
   -- a walk that starts on the plate stays there, and one that is there once started there
   pub walk_stays : {m p x : ℕ} {ps : List ℕ} → Walk (next W H bit) m p ps → p < W * H → Memᴰ x ps → x < W * H
   walk_stays stop h (Memᴰ.head e) = omega arith
+  walk_stays stop h (Memᴰ.tail i) = absurd (mathlib.Core.List.Memᴰ.not-nil i)
   walk_stays (go e w) h (Memᴰ.head e') = omega arith
   walk_stays (go {p} {q} e w) h (Memᴰ.tail i) = walk_stays w (next_on W H bit p q e).1 i
 

@@ -1,6 +1,6 @@
 -- Walking on and walking back, as one. A side has the places that a step leads to, how many steps its longest walk from a pixel has (`steps_left`), and how
 -- many the longest walk of the other side has (`steps_behind`). Whatever is shown of a side holds of both.
-use Prim.Native.Nat.{ℕ, zero, suc, ◌+◌, ◌-◌, ◌*◌, ◌≤◌, ◌<◌}
+use Prim.Native.Nat.{ℕ, zero, suc, ◌+◌, ◌*◌, ◌≤◌, ◌<◌}
 use mathlib.Core.Path.{◌≡◌}
 use mathlib.Core.Bool.{Bool, true, false}
 use mathlib.Core.List.{List, [], ◌∷◌, Memᴰ}

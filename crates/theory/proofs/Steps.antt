@@ -108,7 +108,7 @@ reached_find W H (s ∷ ss) p q i =
     ⊎_elim (λ e. (s, Memᴰ.head refl, e))
     (λ j. let r = reached_find W H ss p q j in (r.0, Memᴰ.tail r.1, r.2)) (arrives _ _ q i)
 
-pub reached_keep : (W H : ℕ) {ss : List Step} (p q : ℕ) {s : Step} → Memᴰ s ss → step_from W H p s ≡ at q → Memᴰ q (reached_by W H ss p)
+pub reached_keep : (W H : ℕ) (p q : ℕ) {s : Step} {ss : List Step} → Memᴰ s ss → step_from W H p s ≡ at q → Memᴰ q (reached_by W H ss p)
 unfolding reached_by
 reached_keep W H p q {s} (Memᴰ.head {x = s'} {xs} e) h = arrive_here _ _ q (ap (step_from W H p) (sym e) ∙ h)
 reached_keep W H p q (Memᴰ.tail m) h = arrive_later _ _ q (reached_keep W H p q m h)
