@@ -5,28 +5,15 @@ use native.Mathlib.Omega.{arith}
 use lib.ListN.{length}
 use Rattle.book.proofs.Taking.{start, has_room, stays, goes, ends}
 use Rattle.book.proofs.Book.without.Goals as goal
-use Rattle.book.proofs.Book.without.Goals.{Start, Then-not-is_meant, then-not-is_meant, else-not-is_meant}
+use Rattle.book.proofs.Book.without.Goals.{Then-not-is_meant, then-not-is_meant, else-not-is_meant}
 
--- a book's array has its length
-full : (c : Start) → length c.args.self.entries ≡ 256
-full c = c.well_formed.0.1.1.1.1.0.1.0.1
-
--- an entry that stays finds an empty slot
+-- an entry that stays finds an empty slot: a book's array has its length
 has_slot : (c : Then-not-is_meant) → c.loop-i.left < 256
 has_slot c =
-    has_room c.args.target c.args.self (full c.before.before.before.before.before.before) c.requires c.loop-i.book c.loop-i.left c.loop-i.i c.loop-i.invariant c.loop-i-test.true
+    has_room c.args.target c.args.self (omega arith) c.requires c.loop-i.book c.loop-i.left c.loop-i.i c.loop-i.invariant c.loop-i-test.true
 
 pub loop-i-init : goal.loop-i-init
 loop-i-init c = start c.args.target c.args.self c.new-book.result c.new-book.ensures
-
-pub offset_bounds-self-i : goal.offset_bounds-self-i
-offset_bounds-self-i c = omega arith
-
-pub bounds-self-i : goal.bounds-self-i
-bounds-self-i c = omega arith
-
-pub is_meant-requires : goal.is_meant-requires
-is_meant-requires c = tt
 
 pub offset_bounds-book-left : goal.offset_bounds-book-left
 offset_bounds-book-left c = omega (arith, has_slot c)
@@ -37,18 +24,19 @@ bounds-book-left c = has_slot c
 pub overflow_add-left : goal.overflow_add-left
 overflow_add-left c = omega (arith, has_slot c)
 
-pub overflow_add-i : goal.overflow_add-i
-overflow_add-i c = omega arith
-
-pub loop-i-smaller : goal.loop-i-smaller
-loop-i-smaller c = omega arith
-
 pub loop-i-preserved : goal.loop-i-preserved
 loop-i-preserved c =
-    let more = c.loop-i-test.true in
+    let room : length c.args.self.entries ≡ 256 = omega arith in
+    let l = c.loop-i in
     elim c.if-not-is_meant.branch [
-      | then-not-is_meant w ↦ rw (w.book-is, w.left-is) (stays c.args.target c.args.self (full (goal.at.loop-i-preserved c).Start) c.requires c.loop-i.book c.loop-i.left c.loop-i.i c.loop-i.invariant more _ (sym c.is_meant.ensures ∙ w.if-not-is_meant.true))
-      | else-not-is_meant w ↦ rw (w.book-is, w.left-is) (goes c.args.target c.args.self (full (goal.at.loop-i-preserved c).Start) c.requires c.loop-i.book c.loop-i.left c.loop-i.i c.loop-i.invariant more _ (sym c.is_meant.ensures ∙ w.if-not-is_meant.false))
+      | then-not-is_meant w ↦
+          rw (w.book-is, w.left-is)
+          (stays c.args.target c.args.self room c.requires l.book l.left l.i l.invariant c.loop-i-test.true _
+          (sym c.is_meant.ensures ∙ w.if-not-is_meant.true))
+      | else-not-is_meant w ↦
+          rw (w.book-is, w.left-is)
+          (goes c.args.target c.args.self room c.requires l.book l.left l.i l.invariant c.loop-i-test.true _
+          (sym c.is_meant.ensures ∙ w.if-not-is_meant.false))
     ]
 
 pub returns : goal.returns
