@@ -21,7 +21,7 @@ use plate::{Answer, refusal};
 
 // The first `count` entries stand, in the order of entering; `last` is the last serial number given.
 #[repr(C)]
-#[derive(Drop)]
+#[derive(Clone, Copy)]
 pub struct Book {
     pub last: u32,
     pub count: usize,
@@ -30,7 +30,7 @@ pub struct Book {
 
 // What a call hands back: the number of a refusal, else 0, and the book.
 #[repr(C)]
-#[derive(Drop)]
+#[derive(Clone, Copy)]
 pub struct Kept {
     pub number: usize,
     pub book: Book,

@@ -1,6 +1,6 @@
 -- What the code does with whole eighths, in floats: a steady number, a mean and a difference are the eighths that the definition counts, and a half
 -- more, cut, is the rounded level.
-use Rattle.std.proofs.Common.{◌≡◌, ℕ, zero, suc, ◌+◌, ◌-◌, ◌*◌, ◌<◌, ◌≤◌, Bool, true, false, leb, ℤ, pos, negsuc, ◌-ℤ◌, nat_abs, refl, ⊎_elim, mul_assoc, arith, lit<, lit≤, leb→le, le-ltb, lt-ltb}
+use Rattle.std.proofs.Common.{◌≡◌, ℕ, zero, suc, ◌+◌, ◌*◌, ◌≤◌, Bool, true, false, leb, ℤ, pos, negsuc, ◌-ℤ◌, nat_abs, refl, ⊎_elim, mul_assoc, arith, lit<, lit≤, leb→le, le-ltb, lt-ltb}
 use lib.IntN.{pos-ne-negsuc}
 use lib.Ieee.{Float, nan, inf, fin, up, down, binary32, add, sub, div, eq, of_bits}
 use lib.Ieee.Exact.{HasValue}

@@ -3,7 +3,7 @@
 use Rattle.std.proofs.Common.{◌≡◌, ℕ, zero, suc, ◌+◌, ◌-◌, ◌*◌, ◌%◌, ◌^◌, ◌<◌, ◌≤◌, Bool, true, false, ◌&&◌, T, eqb, ltb, leb, ℤ, pos, negsuc, sym, refl, ap, ◌∙◌, subst, le_trans, lt_of_lt_of_le, lt_of_le_of_lt, lt_irrefl, mul-le-mul_right, mul_assoc, lt_of_not-le, mul-one, arith, lit<, lit≤, le→leb, eqb→eq, ltb→lt, leb→le, pow_pos, pow_mono, pow-add, shl_lt}
 use denote.Floats.{passes, is_true}
 use lib.Pow.{pow-lt}
-use lib.Ieee.{fin, binary32, up, down, fits, round, mul, lt}
+use lib.Ieee.{fin, binary32, up, down, fits, round, mul}
 use lib.Ieee.Digits.{back}
 use lib.Ieee.Exact.{HasValue, round_exact}
 use lib.Ieee.Fits.{and_l, and_r}

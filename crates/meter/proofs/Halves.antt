@@ -1,6 +1,6 @@
 -- Rounding halves away from zero in floats: z eighths and four more on their side of zero, cut to a whole number, are the level that the definition
 -- has. The sum is exact, and it is small enough to be cut.
-use Rattle.std.proofs.Common.{◌≡◌, ℕ, zero, suc, ◌+◌, ◌-◌, ◌*◌, ◌/◌, ◌<◌, ◌≤◌, Bool, true, false, ◌⊎◌, ℤ, pos, negsuc, ◌-ℤ◌, neg_ℤ, nat_abs, sym, refl, ap, ◌∙◌, subst, ⊎_elim, true≢false, mul-le-mul_right, zero-mul, arith, lit<, lit≤, le-ltb, lt-ltb}
+use Rattle.std.proofs.Common.{◌≡◌, ℕ, zero, suc, ◌+◌, ◌*◌, ◌/◌, ◌<◌, ◌≤◌, Bool, true, false, ℤ, pos, negsuc, ◌-ℤ◌, neg_ℤ, nat_abs, sym, refl, ap, ◌∙◌, subst, ⊎_elim, true≢false, mul-le-mul_right, zero-mul, arith, lit<, lit≤, le-ltb, lt-ltb}
 use lib.Signed.{mag}
 use lib.Ieee.{Float, nan, inf, fin, binary32, up, down, add, sub, lt, of_bits}
 use lib.Ieee.Fits.{down_pos}
