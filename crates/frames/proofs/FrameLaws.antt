@@ -28,14 +28,14 @@ module _ (f : ℕ → ℕ) (r : Frame) (back : Bool) (i x : ℕ) where
 
   straight_onward : r.diagonal ≡ false → max (max (by (beyond back) 0) (by (beyond back) 1)) (by (beyond back) 2) ≡ onward f r back i x
   unfolding onward past
-  straight_onward e = elim back [
+  straight_onward e = elim back as (λ b. max (max (by (beyond b) 0) (by (beyond b) 1)) (by (beyond b) 2) ≡ onward f r b i x) [
     | true ↦ simp (e, add-zero)
     | false ↦ simp (e, add-zero)
   ]
 
   diagonal_onward : r.diagonal ≡ true → max (max (by 1 (beyond back)) (by (beyond back) 1)) (by (beyond back) (beyond back)) ≡ onward f r back i x
   unfolding onward past
-  diagonal_onward e = elim back [
+  diagonal_onward e = elim back as (λ b. max (max (by 1 (beyond b)) (by (beyond b) 1)) (by (beyond b) (beyond b)) ≡ onward f r b i x) [
     | true ↦ simp e
     | false ↦ simp (e, add-zero)
   ]
@@ -48,6 +48,18 @@ room_left :
     n + cond diagonal (m - 1) 0 - 1 - (n - 1 - i + cond diagonal (m - 1 - x) 0) ≡ i + cond diagonal x 0
 room_left true n m i x h k = omega arith
 room_left false n m i x h k = omega arith
+
+-- where the three steps of the direction at this index lead from the spot, by lines and pixels of the frame
+module _ (W H : ℕ) (flipped mirrored diagonal : Bool) (index : ℕ) (f : ℕ → ℕ) (i x : ℕ) where
+  abbrev RowsOnward : Bool → Type 0
+  RowsOnward back =
+      three (λ n. spot f (rows W H flipped mirrored diagonal) (i + counted_from flipped 3 (rows_on index n back)) (x + counted_from mirrored 3 (columns_on index n back)))
+      ≡ onward f (rows W H flipped mirrored diagonal) back i x
+
+  abbrev ColumnsOnward : Bool → Type 0
+  ColumnsOnward back =
+      three (λ n. spot f (columns W H flipped mirrored diagonal) (i + counted_from flipped 3 (columns_on index n back)) (x + counted_from mirrored 3 (rows_on index n back)))
+      ≡ onward f (columns W H flipped mirrored diagonal) back i x
 
 module _ (W H : ℕ) (sized : GoodSize W H) (flipped mirrored diagonal : Bool) (index : ℕ) (known : index < 4) where
   rows_framed :
@@ -93,7 +105,7 @@ module _ (W H : ℕ) (sized : GoodSize W H) where
   unfolding counted_from columns_on rows_on biased plus_one step_at table rank_at span
   north_rows =
       rows_framed W H sized false false false 0 (omega arith)
-      (λ f back i x. elim back [
+      (λ f back i x. elim back as (RowsOnward W H false false false 0 f i x) [
         | true ↦ omega (arith, straight_onward f (rows W H false false false) true i x refl)
         | false ↦ omega (arith, straight_onward f (rows W H false false false) false i x refl)
       ])
@@ -104,7 +116,7 @@ module _ (W H : ℕ) (sized : GoodSize W H) where
   unfolding counted_from columns_on rows_on biased plus_one step_at table rank_at span
   east_columns =
       columns_framed W H sized true false false 1 (omega arith)
-      (λ f back i x. elim back [
+      (λ f back i x. elim back as (ColumnsOnward W H true false false 1 f i x) [
         | true ↦ omega (arith, straight_onward f (columns W H true false false) true i x refl)
         | false ↦ omega (arith, straight_onward f (columns W H true false false) false i x refl)
       ])
@@ -115,7 +127,7 @@ module _ (W H : ℕ) (sized : GoodSize W H) where
   unfolding counted_from columns_on rows_on biased plus_one step_at table rank_at span
   north_east_rows =
       rows_framed W H sized false true true 2 (omega arith)
-      (λ f back i x. elim back [
+      (λ f back i x. elim back as (RowsOnward W H false true true 2 f i x) [
         | true ↦ omega (arith, diagonal_onward f (rows W H false true true) true i x refl)
         | false ↦ omega (arith, diagonal_onward f (rows W H false true true) false i x refl)
       ])
@@ -126,7 +138,7 @@ module _ (W H : ℕ) (sized : GoodSize W H) where
   unfolding counted_from columns_on rows_on biased plus_one step_at table rank_at span
   north_east_columns =
       columns_framed W H sized true false true 2 (omega arith)
-      (λ f back i x. elim back [
+      (λ f back i x. elim back as (ColumnsOnward W H true false true 2 f i x) [
         | true ↦ omega (arith, diagonal_onward f (columns W H true false true) true i x refl)
         | false ↦ omega (arith, diagonal_onward f (columns W H true false true) false i x refl)
       ])
@@ -137,7 +149,7 @@ module _ (W H : ℕ) (sized : GoodSize W H) where
   unfolding counted_from columns_on rows_on biased plus_one step_at table rank_at span
   south_east_rows =
       rows_framed W H sized true true true 3 (omega arith)
-      (λ f back i x. elim back [
+      (λ f back i x. elim back as (RowsOnward W H true true true 3 f i x) [
         | true ↦ omega (arith, diagonal_onward f (rows W H true true true) true i x refl)
         | false ↦ omega (arith, diagonal_onward f (rows W H true true true) false i x refl)
       ])
@@ -148,7 +160,7 @@ module _ (W H : ℕ) (sized : GoodSize W H) where
   unfolding counted_from columns_on rows_on biased plus_one step_at table rank_at span
   south_east_columns =
       columns_framed W H sized true true true 3 (omega arith)
-      (λ f back i x. elim back [
+      (λ f back i x. elim back as (ColumnsOnward W H true true true 3 f i x) [
         | true ↦ omega (arith, diagonal_onward f (columns W H true true true) true i x refl)
         | false ↦ omega (arith, diagonal_onward f (columns W H true true true) false i x refl)
       ])
