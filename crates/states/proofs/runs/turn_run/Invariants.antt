@@ -1,0 +1,15 @@
+use Prim.Native.Nat.{ℕ, ◌+◌, ◌-◌, ◌≤◌}
+use mathlib.Core.Path.{◌≡◌}
+use lib.ListN.{length, get_or}
+use Rattle.eights.specs.Turned.{numbers}
+use Rattle.states.specs.Runs.{Between}
+use Rattle.states.proofs.runs.turn_run.Given as goal
+
+abbrev pub invariant-loop-c : goal.invariant-loop-c
+invariant-loop-c l = (l.c ≤ l.n)
+    × (length l.to ≡ length l.initial.to)
+    × Between (λ (k : ℕ). get_or l.from (l.start + (k - l.at)) 0) (numbers l.initial.to) (numbers l.to) l.at (l.at + l.c)
+    × Between (λ (k : ℕ). get_or (numbers l.from) (l.start + (k - l.at)) 0) l.initial.to l.to l.at (l.at + l.c)
+
+abbrev pub decreases-loop-c : goal.decreases-loop-c
+decreases-loop-c l = l.n - l.c
