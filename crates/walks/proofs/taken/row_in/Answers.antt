@@ -1,0 +1,6 @@
+-- `row_in` meets its contract: of a sound plan `row_of` answers the row itself.
+use Rattle.plans.proofs.RowForms.{row_told}
+use Rattle.walks.proofs.taken.row_in.Goals as goal
+
+pub returns : goal.returns
+returns c = row_told _ _ _ _ c.requires.sound c.requires.e_bound.0 c.requires.e_bound.1 c.row_of.ensures
