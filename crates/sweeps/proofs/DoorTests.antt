@@ -9,7 +9,7 @@ use Rattle.plans.specs.Plans.{half_of, keys_size, state_size}
 use Rattle.plans.specs.Forms.{well_formed}
 use Rattle.plans.specs.declared.plan.Plan.{Plan}
 use Rattle.plans.specs.declared.plan.Reach.{Reach}
-use Rattle.plans.proofs.FormFacts.{Formed, formed}
+use Rattle.plans.proofs.FormFacts.{Formed}
 use Rattle.plans.proofs.FormTests.{orders_ranked, orders_lines}
 use Rattle.states.specs.Doors.{can_hold}
 use Rattle.states.proofs.DoorTests.{hold_if}

@@ -1,6 +1,6 @@
 -- A plan and the same rows counted from the other end are opposite: a state of one has the rows of the state of the other that has as many states after
 -- it, in the opposite order. On ranks both name one rank, since states and rows together are one more than the ranks.
-use Prim.Native.Nat.{ℕ, ◌+◌, ◌-◌, ◌*◌, ◌≤◌, ◌<◌}
+use Prim.Native.Nat.{ℕ, ◌+◌, ◌-◌, ◌≤◌, ◌<◌}
 use mathlib.Core.Path.{◌≡◌, refl, sym, ap, ◌∙◌}
 use mathlib.Core.Bool.{Bool, true, false, not}
 use native.Mathlib.Omega.{arith}
