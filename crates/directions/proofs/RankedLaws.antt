@@ -63,19 +63,21 @@ module _ (r : Frame) (along_rows back : Bool) (a : Area) (rows planes : ℕ) (ar
     -- the same row of the last state is one rank on
     pub rank_on : past back (line_at plan e m) ≡ suc (line_at plan n m)
     unfolding line_of order_of past
-    rank_on = elim back [ true ↦ omega (arith, rank_within e m row) | false ↦ omega arith ]
+    rank_on =
+        elim back as (λ b. past b (line_at (ranked_plan r along_rows b a rows planes) e m) ≡ suc (line_at (ranked_plan r along_rows b a rows planes) n m)) [ true ↦ omega (arith, rank_within e m row) | false ↦ omega arith ]
 
     -- the row before of the last state is two
     pub rank_two_on : (k : ℕ) → m ≡ suc k → past back (past back (line_at plan e m)) ≡ line_at plan n k + 2
     unfolding line_of order_of past
-    rank_two_on k h = elim back [ true ↦ omega (arith, rank_within e m row) | false ↦ omega arith ]
+    rank_two_on k h =
+        elim back as (λ b. past b (past b (line_at (ranked_plan r along_rows b a rows planes) e m)) ≡ line_at (ranked_plan r along_rows b a rows planes) n k + 2) [ true ↦ omega (arith, rank_within e m row) | false ↦ omega arith ]
 
     -- two ranks on from row 0, no pixel of the area has room for the walks of the last state
     no_room :
         (i x y z : ℕ) → m ≡ 0 → i + x ≡ line_at plan e m → past back i ≡ suc y → past back x ≡ suc z → InArea a y z → room_in a back y z < n
     unfolding line_of order_of past
     no_room i x y z h =
-        elim back [
+        elim back as (λ b. i + x ≡ line_at (ranked_plan r along_rows b a rows planes) e m → past b i ≡ suc y → past b x ≡ suc z → InArea a y z → room_in a b y z < n) [
           | true ↦ λ s u v w. omega (arith, rank_within e m row, w.over_bottom, w.before_right)
           | false ↦ λ s u v w. omega (arith, w.under_top, w.past_left)
         ]

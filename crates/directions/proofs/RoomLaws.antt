@@ -2,7 +2,7 @@
 -- the rows of linked states are short, since they are no longer than there are lines, and both together make at most 65,536 pixels.
 use Prim.Native.Nat.{ℕ, ◌+◌, ◌-◌, ◌*◌, ◌≤◌}
 use mathlib.Core.Path.{◌≡◌, refl, sym}
-use mathlib.Core.Bool.{Bool, true, false, cond, ◌&&◌, true≢false}
+use mathlib.Core.Bool.{Bool, true, cond, ◌&&◌, true≢false}
 use mathlib.Core.Logic.{inl, inr}
 use native.Mathlib.Nat.{mul-le-mul, mul-le-mul_right, mul_left_comm}
 use native.Mathlib.Omega.{arith}

@@ -26,17 +26,19 @@ module _ (r : Frame) (along_rows back : Bool) (rows planes slack e : ℕ) (on : 
 
   line_on : (m : ℕ) → line_at plan e m < r.lines
   unfolding line_of order_of
-  line_on m = elim back [ true ↦ omega arith | false ↦ omega arith ]
+  line_on m = elim back as (λ b. line_at (still_plan r along_rows b rows planes slack) e m < r.lines) [ true ↦ omega arith | false ↦ omega arith ]
 
   -- the last state is the line before
   line_before : (d m n : ℕ) → e ≡ suc d → past back (line_at plan e m) ≡ suc (line_at plan d n)
   unfolding line_of order_of past
-  line_before d m n h = elim back [ true ↦ omega arith | false ↦ omega arith ]
+  line_before d m n h =
+      elim back as (λ b. past b (line_at (still_plan r along_rows b rows planes slack) e m) ≡ suc (line_at (still_plan r along_rows b rows planes slack) d n)) [ true ↦ omega arith | false ↦ omega arith ]
 
   -- and none is before the first
   none_before : (m i : ℕ) → e ≡ 0 → i < r.lines → past back (line_at plan e m) ≡ suc i → ⊥
   unfolding line_of order_of past
-  none_before m i = elim back [ true ↦ λ h k s. omega arith | false ↦ λ h k s. omega arith ]
+  none_before m i =
+      elim back as (λ b. e ≡ 0 → i < r.lines → past b (line_at (still_plan r along_rows b rows planes slack) e m) ≡ suc i → ⊥) [ true ↦ λ h k s. omega arith | false ↦ λ h k s. omega arith ]
 
 -- ---- the three steps
 

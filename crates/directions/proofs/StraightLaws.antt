@@ -23,13 +23,14 @@ use Rattle.directions.proofs.GrownLaws.{Keyed, StartsBy, grown_by}
 module _ (r : Frame) (back : Bool) (a : Area) (rows planes : ℕ) (area : AreaOf r a) (e m : ℕ) (row : m < rows_in (straight_plan r back a rows planes) e) where
   pub line_on : line_at (straight_plan r back a rows planes) e m < r.lines
   unfolding rows_in line_of order_of
-  line_on = elim back [ true ↦ omega (arith, area.high, area.low) | false ↦ omega (arith, row, area.low) ]
+  line_on = elim back as (λ b. line_at (straight_plan r b a rows planes) e m < r.lines) [ true ↦ omega (arith, area.high, area.low) | false ↦ omega (arith, row, area.low) ]
 
   -- the row before is the line before
   pub line_before : (n : ℕ) → m ≡ suc n →
       past back (line_at (straight_plan r back a rows planes) e m) ≡ suc (line_at (straight_plan r back a rows planes) e n)
   unfolding rows_in line_of order_of past
-  line_before n h = elim back [ true ↦ omega (arith, row, area.high) | false ↦ omega arith ]
+  line_before n h =
+      elim back as (λ b. past b (line_at (straight_plan r b a rows planes) e m) ≡ suc (line_at (straight_plan r b a rows planes) e n)) [ true ↦ omega (arith, row, area.high) | false ↦ omega arith ]
 
 module _ (r : Frame) (W H index : ℕ) (framed : Framed r W H index) (straight : r.diagonal ≡ false) (back : Bool) (g : ℕ → ℕ) (passes : ℕ → Bool)
     (a : Area) (area : AreaOf r a) (rows planes : ℕ) where
