@@ -14,8 +14,10 @@ told c = c.correction-correction.ensures ∙ ap meter_verdict (λ j. record { la
 
 pub returns-in-Word : goal.returns-in-Word
 returns-in-Word c =
-    let answer = sym (told (goal.at.returns-in-Word c).After-correction-correction) ∙ ap answered_by c.in-Word.is in record { value = sym (ap number_of answer); word_after = sym (ap (λ (v : Verdict ℕ). value_after v c.args.word.now) answer) }
+    let answer = sym (told (goal.at.returns-in-Word c).After-correction-correction) ∙ ap answered_by c.in-Word.is in
+    record { value = sym (ap number_of answer); word_after = sym (ap (λ (v : Verdict ℕ). value_after v c.args.word.now) answer) }
 
 pub returns-in-Refused : goal.returns-in-Refused
 returns-in-Refused c =
-    let answer = sym (told (goal.at.returns-in-Refused c).After-correction-correction) ∙ ap answered_by c.in-Refused.is in record { value = sym (ap number_of answer); word_after = sym (ap (λ (v : Verdict ℕ). value_after v c.args.word.now) answer) }
+    let answer = sym (told (goal.at.returns-in-Refused c).After-correction-correction) ∙ ap answered_by c.in-Refused.is in
+    record { value = sym (ap number_of answer); word_after = sym (ap (λ (v : Verdict ℕ). value_after v c.args.word.now) answer) }

@@ -55,4 +55,6 @@ word_of-requires c = rw (to_z-of_z w32 c.rounded.result (fits c)) (omega (arith,
 
 pub returns : goal.returns
 returns c =
-    rw (c.word_of.ensures, to_z-of_z w32 c.rounded.result (fits (goal.at.returns c).After-rounded), level_is (goal.at.returns c).After-rounded) (both_accepted (meter-of (goal.at.returns c).After-difference) (lamp_is (goal.at.returns c).After-difference).0 (dark_is (goal.at.returns c).After-difference).0)
+    let d = (goal.at.returns c).After-difference in
+    let r = (goal.at.returns c).After-rounded in
+    rw (c.word_of.ensures, to_z-of_z w32 c.rounded.result (fits r), level_is r) (both_accepted (meter-of d) (lamp_is d).0 (dark_is d).0)

@@ -1,6 +1,0 @@
--- The constant is the defined version, by computing both.
-use mathlib.Core.Path.{refl}
-use Rattle.diilvak_meter.proofs.diilvak_meter_version.Goals as goal
-
-pub returns : goal.returns
-returns c = refl
