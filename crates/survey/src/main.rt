@@ -3,17 +3,32 @@
 // a text that is too long. What was read before an input ended or failed is taken for the text.
 #![tactic(auto)]
 
-ghost use Rattle.std.specs.Prelude.{◌≡◌, length};
+ghost use Rattle.std.specs.Prelude.{◌≡◌, ◌≤◌, length};
 
-use libc::{STDIN_FILENO, STDOUT_FILENO};
+use std::io::{self, Read, Write};
 use surveying::MAX_OUTPUT;
 
-fn main() {
-    let mut text = io::large_buffer();
-    let got = io::read_full(STDIN_FILENO, &mut text);
+fn main(rt: HostRuntime) -> io::Result<()> {
+    let mut text = [0u8; 65536];
+    let got = read_full(&mut rt.stdin(), &mut text);
     let mut out = answer_buffer();
     let written = surveying::survey(&text[..got], &mut out);
-    io::write_all(STDOUT_FILENO, &out[..written]);
+    io::writer(&rt).write_all(&out[..written])
+}
+
+// How many bytes were read before the buffer was full, or the input ended or failed.
+fn read_full<R: Read>(from: &mut R, to: &mut [u8]) -> usize
+    ensures { result ≤ length to.new }
+{
+    let mut done = 0;
+    while done < to.len() {
+        let n = from.read(&mut to[done..]).unwrap_or(0);
+        if n == 0 {
+            break;
+        }
+        done += n;
+    }
+    done
 }
 
 // What is in it before the answer is free, so that its length is all that is said.
