@@ -9,7 +9,6 @@ use mir.ValLaws.{to_z-of_z, to_z_pos}
 use Rattle.basics.proofs.Integers.{mag-sub}
 use Rattle.plate.specs.Levels.{level}
 use Rattle.plate.proofs.Keys.{level_fits}
-use borrow.Author.Rules.{rules}
 use Rattle.plate.proofs.level.level_of.Goals as goal
 
 pub overflow_sub-result : goal.overflow_sub-result

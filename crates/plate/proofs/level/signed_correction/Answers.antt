@@ -5,7 +5,6 @@ use mir.Syntax.{w32}
 use mir.ValLaws.{to_z-of_z, to_z_pos}
 use Rattle.basics.proofs.Integers.{mag-sub}
 use Rattle.plate.specs.Levels.{signed}
-use borrow.Author.Rules.{rules}
 use Rattle.plate.proofs.level.signed_correction.Goals as goal
 
 pub overflow_sub-result : goal.overflow_sub-result

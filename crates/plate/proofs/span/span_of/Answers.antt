@@ -8,7 +8,6 @@ use Rattle.plate.specs.Refusals.{bad_size}
 use Rattle.plate.specs.Sizes.{GoodSize}
 use Rattle.plate.proofs.Sizes.{good_size}
 use Rattle.plate.proofs.Spans.{no_size, no_direction, span_rows, span_columns, span_diagonal}
-use borrow.Author.Rules.{rules}
 use Rattle.plate.proofs.span.span_of.Goals as goal
 use Rattle.plate.proofs.span.span_of.Goals.{Else-bad_size}
 

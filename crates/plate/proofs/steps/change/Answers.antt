@@ -1,6 +1,5 @@
 -- `change` reads the table of the definitions: entry by entry inside it, and no change past it.
 use Rattle.plate.proofs.StepTable.{entry_is, past_table, past_steps}
-use borrow.Author.Rules.{rules}
 use Rattle.plate.proofs.steps.change.Goals as goal
 
 pub returns-then-index-ge-DIRECTIONS : goal.returns-then-index-ge-DIRECTIONS

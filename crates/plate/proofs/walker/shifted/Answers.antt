@@ -10,7 +10,6 @@ use mir.ValLaws.{to_z-of_z, to_z_pos}
 use mir.Facts.{sfits_widen}
 use Rattle.basics.proofs.Integers.{mag-add}
 use Rattle.plate.proofs.Within.{within_negative, not_negative, within_past, within_inside}
-use borrow.Author.Rules.{rules}
 use Rattle.plate.proofs.walker.shifted.Goals as goal
 
 sum_size : (at : ℕ) (change : ℤ) → at < 65536 → SFits w8 change → mag (pos at +ℤ change) < 65792

@@ -1,7 +1,6 @@
 -- `checked` runs the checks of a setting in the table's order: each return rewrites the verdict by the tests that led to it.
 use mathlib.Core.Path.{sym, ◌∙◌}
 use Rattle.plate.specs.Refusals.{judged, setting_verdict}
-use borrow.Author.Rules.{rules}
 use Rattle.plate.proofs.setting.Setting.checked.Goals as goal
 
 pub returns-then-bad_length : goal.returns-then-bad_length

@@ -1,5 +1,4 @@
 -- `step` is `walked`, case by case (`WalkerSteps`): the tests of the code are the cases, and the size keeps every number small.
-use borrow.Author.Rules.{rules}
 use Prim.Native.Nat.{ℕ, ◌*◌, ◌/◌, ◌%◌, ◌<◌}
 use native.Mathlib.Nat.{div-le_self, mod-le, mul_comm}
 use native.Mathlib.Omega.{arith}
@@ -36,6 +35,7 @@ bits_read {z} small = to_z-of_z w8 z (record { sfits = small })
 module _ (d : After-shifted-row) where
   abbrev start : Else-bad_size
   start = d.before.before.before.before.before.before
+
   abbrev walker : Walker
   walker = start.args.self
 
