@@ -1,5 +1,5 @@
 //! Links the proved library, libdiilvak_meter.a: the one in the folder that DIILVAK_LIB_DIR names, or else in
-//! the repository's target/staticlib. Without it nothing is built.
+//! crates/diilvak_meter/out. Without it nothing is built.
 use std::path::{Path, PathBuf};
 
 fn main() {
@@ -8,15 +8,14 @@ fn main() {
     let named = std::env::var_os("DIILVAK_LIB_DIR").map(PathBuf::from);
     let folder = named.clone().unwrap_or_else(|| {
         let package = std::env::var_os("CARGO_MANIFEST_DIR").expect("set by cargo");
-        Path::new(&package).join("../../target/staticlib")
+        Path::new(&package).join("../../crates/diilvak_meter/out")
     });
     let archive = folder.join("libdiilvak_meter.a");
     println!("cargo::rerun-if-changed={}", archive.display());
     if !archive.is_file() {
         let from = if named.is_some() { "DIILVAK_LIB_DIR: " } else { "" };
         println!(
-            "cargo::error={from}there is no {}; `rt staticlib diilvak_meter` in the root of the repository \
-             writes it to target/staticlib",
+            "cargo::error={from}there is no {}; `rt lib` in crates/diilvak_meter writes it to its out/",
             archive.display()
         );
         return;

@@ -26,7 +26,7 @@ fn whole_texts() -> [String; 4] {
 }
 
 fn survey(text: &[u8]) -> Vec<u8> {
-    let program = PathBuf::from(env!("CARGO_MANIFEST_DIR")).join("../../target/bin/survey");
+    let program = PathBuf::from(env!("CARGO_MANIFEST_DIR")).join("../../crates/survey/out/survey");
     let mut running = Command::new(&program)
         .stdin(Stdio::piped())
         .stdout(Stdio::piped())
