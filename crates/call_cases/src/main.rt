@@ -6,235 +6,241 @@
 #![tactic(auto)]
 
 use correction::FirstFault;
-use libc::STDOUT_FILENO;
 use plate::{Answer, Made, Moved, Setting, Walker};
+use std::io;
 
-fn main() {
-    edge_words();
-    edge_readings();
-    gap_counts();
-    setting_refusals();
-    size_refusals();
-    length_refusals();
-    value_refusals();
-    judged_in_order();
-    walk_to_late_correction();
-    walk_to_late_reading();
-    walk_without_bad_reading();
-    walks();
+fn main(rt: HostRuntime) -> io::Result<()> {
+    edge_words(&rt)?;
+    edge_readings(&rt)?;
+    gap_counts(&rt)?;
+    setting_refusals(&rt)?;
+    size_refusals(&rt)?;
+    length_refusals(&rt)?;
+    value_refusals(&rt)?;
+    judged_in_order(&rt)?;
+    walk_to_late_correction(&rt)?;
+    walk_to_late_reading(&rt)?;
+    walk_without_bad_reading(&rt)?;
+    walks(&rt)
 }
 
-fn print_number(n: usize) {
-    io::print_decimal(STDOUT_FILENO, n as u64);
+fn print_number(rt: &impl Print, n: usize) -> io::Result<()> {
+    print!(rt; "{n}")
 }
 
 // "NAME: number place" and a newline; 0 0 where the call was accepted.
-fn print_answer(name: &[u8], number: usize, place: usize) {
-    io::write_all(STDOUT_FILENO, name);
-    io::write_all(STDOUT_FILENO, b": ");
-    print_number(number);
-    io::write_all(STDOUT_FILENO, b" ");
-    print_number(place);
-    io::write_all(STDOUT_FILENO, b"\n");
+fn print_answer(rt: &impl Print, name: &str, number: usize, place: usize) -> io::Result<()> {
+    println!(rt; "{name}: {number} {place}")
 }
 
-fn print_corrected(name: &[u8], answer: Answer) {
+fn print_corrected(rt: &impl Print, name: &str, answer: Answer) -> io::Result<()> {
     match answer {
-        Answer::Done => print_answer(name, 0, 0),
-        Answer::Refused { number, place } => print_answer(name, number, place),
+        Answer::Done => print_answer(rt, name, 0, 0),
+        Answer::Refused { number, place } => print_answer(rt, name, number, place),
     }
 }
 
-fn print_made(name: &[u8], made: Made) {
+fn print_made(rt: &impl Print, name: &str, made: Made) -> io::Result<()> {
     match made {
-        Made::Valid(_) => print_answer(name, 0, 0),
-        Made::Refused { number, place } => print_answer(name, number, place),
+        Made::Valid(_) => print_answer(rt, name, 0, 0),
+        Made::Refused { number, place } => print_answer(rt, name, number, place),
     }
 }
 
 // A plate of one pixel.
-fn correct_pixel(name: &[u8], reading: u16, word: u16) {
+fn correct_pixel(rt: &impl Print, name: &str, reading: u16, word: u16) -> io::Result<()> {
     let readings = [reading];
     let words = [word];
     let mut result = [0i16; 1];
     print_corrected(
+        rt,
         name,
         correction::correct(1, 1, &readings, &words, &mut result),
-    );
+    )
 }
 
 // A pixel with the reading 0.
-fn correct_word(name: &[u8], word: u16) {
-    correct_pixel(name, 0, word);
+fn correct_word(rt: &impl Print, name: &str, word: u16) -> io::Result<()> {
+    correct_pixel(rt, name, 0, word)
 }
 
-fn edge_words() {
-    correct_word(b"word 49152", 49152);
-    correct_word(b"word 16383", 16383);
-    correct_word(b"word 49151", 49151);
-    correct_word(b"word 16384", 16384);
-    correct_word(b"word 32768", 32768);
+fn edge_words(rt: &impl Print) -> io::Result<()> {
+    correct_word(rt, "word 49152", 49152)?;
+    correct_word(rt, "word 16383", 16383)?;
+    correct_word(rt, "word 49151", 49151)?;
+    correct_word(rt, "word 16384", 16384)?;
+    correct_word(rt, "word 32768", 32768)
 }
 
-fn edge_readings() {
-    correct_pixel(b"reading 16383 word 16383", 16383, 16383);
-    correct_pixel(b"reading 16384 word 16384", 16384, 16384);
+fn edge_readings(rt: &impl Print) -> io::Result<()> {
+    correct_pixel(rt, "reading 16383 word 16383", 16383, 16383)?;
+    correct_pixel(rt, "reading 16384 word 16384", 16384, 16384)
 }
 
-fn gap_counts() {
-    print_made(b"gaps 8 length 9", Setting::new(9, 8, 15, 0, 0));
-    print_made(b"gaps 8 length 8", Setting::new(8, 8, 15, 0, 0));
+fn gap_counts(rt: &impl Print) -> io::Result<()> {
+    print_made(rt, "gaps 8 length 9", Setting::new(9, 8, 15, 0, 0))?;
+    print_made(rt, "gaps 8 length 8", Setting::new(8, 8, 15, 0, 0))
 }
 
-fn setting_refusals() {
-    print_made(b"length 0", Setting::new(0, 0, 15, 0, 0));
-    print_made(b"length 1025", Setting::new(1025, 0, 15, 0, 0));
-    print_made(b"gaps 9", Setting::new(20, 9, 15, 0, 0));
-    print_made(b"ways 0", Setting::new(4, 0, 0, 0, 0));
-    print_made(b"ways 16", Setting::new(4, 0, 16, 0, 0));
-    print_made(b"mode 2", Setting::new(4, 0, 15, 2, 0));
-    print_made(b"ends 1", Setting::new(4, 0, 15, 0, 1));
-    print_made(b"ends 2", Setting::new(4, 0, 15, 0, 2));
-    print_made(b"mode 2 ends 2", Setting::new(4, 0, 15, 2, 2));
-    print_made(b"all wrong", Setting::new(0, 9, 16, 2, 2));
+fn setting_refusals(rt: &impl Print) -> io::Result<()> {
+    print_made(rt, "length 0", Setting::new(0, 0, 15, 0, 0))?;
+    print_made(rt, "length 1025", Setting::new(1025, 0, 15, 0, 0))?;
+    print_made(rt, "gaps 9", Setting::new(20, 9, 15, 0, 0))?;
+    print_made(rt, "ways 0", Setting::new(4, 0, 0, 0, 0))?;
+    print_made(rt, "ways 16", Setting::new(4, 0, 16, 0, 0))?;
+    print_made(rt, "mode 2", Setting::new(4, 0, 15, 2, 0))?;
+    print_made(rt, "ends 1", Setting::new(4, 0, 15, 0, 1))?;
+    print_made(rt, "ends 2", Setting::new(4, 0, 15, 0, 2))?;
+    print_made(rt, "mode 2 ends 2", Setting::new(4, 0, 15, 2, 2))?;
+    print_made(rt, "all wrong", Setting::new(0, 9, 16, 2, 2))
 }
 
-fn size_refusals() {
+fn size_refusals(rt: &impl Print) -> io::Result<()> {
     let readings = [0u16; 6];
     let words = [0u16; 6];
     let mut result = [0i16; 6];
     print_corrected(
-        b"width 0",
+        rt,
+        "width 0",
         correction::correct(0, 6, &readings, &words, &mut result),
-    );
+    )?;
     print_corrected(
-        b"height 1025",
+        rt,
+        "height 1025",
         correction::correct(1, 1025, &readings, &words, &mut result),
-    );
+    )?;
     print_corrected(
-        b"1024 x 65",
+        rt,
+        "1024 x 65",
         correction::correct(1024, 65, &readings, &words, &mut result),
-    );
+    )
 }
 
-fn length_refusals() {
+fn length_refusals(rt: &impl Print) -> io::Result<()> {
     let six = [0u16; 6];
     let five = [0u16; 5];
     let mut result = [0i16; 6];
     let mut short = [0i16; 5];
     print_corrected(
-        b"readings short",
+        rt,
+        "readings short",
         correction::correct(3, 2, &five, &six, &mut result),
-    );
+    )?;
     print_corrected(
-        b"words short",
+        rt,
+        "words short",
         correction::correct(3, 2, &six, &five, &mut result),
-    );
+    )?;
     print_corrected(
-        b"result short",
+        rt,
+        "result short",
         correction::correct(3, 2, &six, &six, &mut short),
-    );
+    )
 }
 
-fn value_refusals() {
+fn value_refusals(rt: &impl Print) -> io::Result<()> {
     let good = [1u16, 2, 3, 4, 5, 6];
     let readings = [1u16, 2, 3, 16384, 5, 20000];
     let zeros = [0u16; 6];
     let words = [0u16, 0, 49151, 0, 16384, 0];
     let mut result = [7i16; 6];
     print_corrected(
-        b"reading 16384 fourth",
+        rt,
+        "reading 16384 fourth",
         correction::correct(3, 2, &readings, &zeros, &mut result),
-    );
+    )?;
     print_corrected(
-        b"word 49151 third",
+        rt,
+        "word 49151 third",
         correction::correct(3, 2, &good, &words, &mut result),
-    );
+    )?;
     if result[0] == 7 {
-        io::write_all(STDOUT_FILENO, b"the result is as it was\n");
+        println!(rt; "the result is as it was")?;
     }
+    Ok(())
 }
 
 // A bad reading late on the plate wins over a bad correction early on it.
-fn judged_in_order() {
+fn judged_in_order(rt: &impl Print) -> io::Result<()> {
     let readings = [0u16, 0, 0, 16384];
     let words = [32768u16, 0, 0, 0];
     let mut result = [0i16; 4];
     print_corrected(
-        b"late reading, early word",
+        rt,
+        "late reading, early word",
         correction::correct(2, 2, &readings, &words, &mut result),
-    );
+    )
 }
 
-fn print_first(first: FirstFault) {
+fn print_first(rt: &impl Print, first: FirstFault) -> io::Result<()> {
     match first {
-        FirstFault::At(place) => print_number(place),
-        FirstFault::Nowhere => {
-            io::write_all(STDOUT_FILENO, b"none");
-        }
+        FirstFault::At(place) => print_number(rt, place),
+        FirstFault::Nowhere => print!(rt; "none"),
     }
 }
 
 // What the walk over these pixels holds: "NAME: " and the first bad reading and correction, or "none".
-fn print_faults(name: &[u8], readings: &[u16], words: &[u16]) {
+fn print_faults(rt: &impl Print, name: &str, readings: &[u16], words: &[u16]) -> io::Result<()> {
     let faults = correction::find_faults(readings, words);
     let reading = faults.reading;
     let correction = faults.correction;
-    io::write_all(STDOUT_FILENO, name);
-    io::write_all(STDOUT_FILENO, b": ");
-    print_first(reading);
-    io::write_all(STDOUT_FILENO, b" ");
-    print_first(correction);
-    io::write_all(STDOUT_FILENO, b"\n");
+    print!(rt; "{name}: ")?;
+    print_first(rt, reading)?;
+    print!(rt; " ")?;
+    print_first(rt, correction)?;
+    println!(rt)
 }
 
 // A bad correction after a bad reading is held too, and later ones of either kind are not. Where the lists
 // differ in length the walk ends with the shorter one.
-fn walk_to_late_correction() {
+fn walk_to_late_correction(rt: &impl Print) -> io::Result<()> {
     let readings = [5u16, 16384, 3, 20000];
     let words = [0u16, 0, 49151, 16384];
     let mut result = [0i16; 4];
-    print_faults(b"after 0 of 4", &readings[..0], &words[..0]);
-    print_faults(b"after 1 of 4", &readings[..1], &words[..1]);
-    print_faults(b"after 2 of 4", &readings[..2], &words[..2]);
-    print_faults(b"after 3 of 4", &readings[..3], &words[..3]);
-    print_faults(b"after 4 of 4", &readings, &words);
-    print_faults(b"2 words alone", &readings, &words[..2]);
-    print_faults(b"1 reading alone", &readings[..1], &words);
+    print_faults(rt, "after 0 of 4", &readings[..0], &words[..0])?;
+    print_faults(rt, "after 1 of 4", &readings[..1], &words[..1])?;
+    print_faults(rt, "after 2 of 4", &readings[..2], &words[..2])?;
+    print_faults(rt, "after 3 of 4", &readings[..3], &words[..3])?;
+    print_faults(rt, "after 4 of 4", &readings, &words)?;
+    print_faults(rt, "2 words alone", &readings, &words[..2])?;
+    print_faults(rt, "1 reading alone", &readings[..1], &words)?;
     print_corrected(
-        b"the four",
+        rt,
+        "the four",
         correction::correct(4, 1, &readings, &words, &mut result),
-    );
+    )
 }
 
 // A bad reading after a bad correction.
-fn walk_to_late_reading() {
+fn walk_to_late_reading(rt: &impl Print) -> io::Result<()> {
     let readings = [5u16, 3, 16384];
     let words = [16384u16, 0, 0];
     let mut result = [0i16; 3];
-    print_faults(b"after 0 of 3", &readings[..0], &words[..0]);
-    print_faults(b"after 1 of 3", &readings[..1], &words[..1]);
-    print_faults(b"after 2 of 3", &readings[..2], &words[..2]);
-    print_faults(b"after 3 of 3", &readings, &words);
+    print_faults(rt, "after 0 of 3", &readings[..0], &words[..0])?;
+    print_faults(rt, "after 1 of 3", &readings[..1], &words[..1])?;
+    print_faults(rt, "after 2 of 3", &readings[..2], &words[..2])?;
+    print_faults(rt, "after 3 of 3", &readings, &words)?;
     print_corrected(
-        b"the three",
+        rt,
+        "the three",
         correction::correct(3, 1, &readings, &words, &mut result),
-    );
+    )
 }
 
-fn walk_without_bad_reading() {
+fn walk_without_bad_reading(rt: &impl Print) -> io::Result<()> {
     let readings = [5u16, 3];
     let words = [0u16, 16384];
     let mut result = [0i16; 2];
-    print_faults(b"after 2 of 2", &readings, &words);
+    print_faults(rt, "after 2 of 2", &readings, &words)?;
     print_corrected(
-        b"the two",
+        rt,
+        "the two",
         correction::correct(2, 1, &readings, &words, &mut result),
-    );
+    )
 }
 
 // Where the numbered step leads from the middle of a plate of 3 x 3, or "leaves".
-fn print_step(direction: usize, place: usize, number: usize) {
+fn print_step(rt: &impl Print, direction: usize, place: usize, number: usize) -> io::Result<()> {
     let walker = Walker {
         width: 3,
         height: 3,
@@ -242,31 +248,28 @@ fn print_step(direction: usize, place: usize, number: usize) {
         place,
     };
     match walker.step(number) {
-        Moved::To(w) => print_number(w.place),
-        Moved::Leaves => {
-            io::write_all(STDOUT_FILENO, b"leaves");
-        }
+        Moved::To(w) => print_number(rt, w.place)?,
+        Moved::Leaves => print!(rt; "leaves")?,
     }
-    io::write_all(STDOUT_FILENO, b" ");
+    print!(rt; " ")
 }
 
-fn print_steps(name: &[u8], direction: usize, place: usize) {
-    io::write_all(STDOUT_FILENO, name);
-    io::write_all(STDOUT_FILENO, b": ");
-    print_step(direction, place, 0);
-    print_step(direction, place, 1);
-    print_step(direction, place, 2);
-    print_step(direction, place, 3);
-    io::write_all(STDOUT_FILENO, b"\n");
+fn print_steps(rt: &impl Print, name: &str, direction: usize, place: usize) -> io::Result<()> {
+    print!(rt; "{name}: ")?;
+    print_step(rt, direction, place, 0)?;
+    print_step(rt, direction, place, 1)?;
+    print_step(rt, direction, place, 2)?;
+    print_step(rt, direction, place, 3)?;
+    println!(rt)
 }
 
-fn walks() {
-    print_steps(b"north from 4", 1, 4);
-    print_steps(b"east from 4", 2, 4);
-    print_steps(b"north-east from 4", 4, 4);
-    print_steps(b"south-east from 4", 8, 4);
-    print_steps(b"north from 0", 1, 0);
-    print_steps(b"south-east from 8", 8, 8);
-    print_steps(b"no such way", 3, 4);
-    print_steps(b"off the plate", 2, 9);
+fn walks(rt: &impl Print) -> io::Result<()> {
+    print_steps(rt, "north from 4", 1, 4)?;
+    print_steps(rt, "east from 4", 2, 4)?;
+    print_steps(rt, "north-east from 4", 4, 4)?;
+    print_steps(rt, "south-east from 4", 8, 4)?;
+    print_steps(rt, "north from 0", 1, 0)?;
+    print_steps(rt, "south-east from 8", 8, 8)?;
+    print_steps(rt, "no such way", 3, 4)?;
+    print_steps(rt, "off the plate", 2, 9)
 }

@@ -3,50 +3,57 @@
 use crate::printing::print_plate;
 use crate::settings::{CLOSING, EAST, OPENING, crack_ended, setting};
 use plate::Setting;
+use std::io;
 
-fn filter_row(name: &[u8], row: &[i16], s: Setting, res: &mut [i16]) {
+fn filter_row(
+    rt: &impl Print,
+    name: &str,
+    row: &[i16],
+    s: Setting,
+    res: &mut [i16],
+) -> io::Result<()> {
     let mut work = [4321u16; 40];
     let answer = engine::filter(row.len(), 1, row, s, res, &mut work);
-    print_plate(name, answer, res);
+    print_plate(rt, name, answer, res)
 }
 
-fn gap_first() {
+fn gap_first(rt: &impl Print) -> io::Result<()> {
     let mut result = [0i16; 4];
     let row = [5i16, 9, 12, 8];
     let opening = setting(OPENING, EAST, 4, 1);
-    filter_row(b"gap first", &row, opening, &mut result);
+    filter_row(rt, "gap first", &row, opening, &mut result)?;
     let ended = crack_ended(opening);
-    filter_row(b"gap first, ends 1", &row, ended, &mut result);
+    filter_row(rt, "gap first, ends 1", &row, ended, &mut result)
 }
 
-fn dark_gap_first() {
+fn dark_gap_first(rt: &impl Print) -> io::Result<()> {
     let mut result = [0i16; 4];
     let row = [12i16, 5, 9, 8];
     let closing = setting(CLOSING, EAST, 4, 1);
-    filter_row(b"gap first, closing", &row, closing, &mut result);
+    filter_row(rt, "gap first, closing", &row, closing, &mut result)?;
     let ended = crack_ended(closing);
-    filter_row(b"gap first, closing, ends 1", &row, ended, &mut result);
+    filter_row(rt, "gap first, closing, ends 1", &row, ended, &mut result)
 }
 
-fn gap_between() {
+fn gap_between(rt: &impl Print) -> io::Result<()> {
     let mut result = [0i16; 4];
     let q = [9i16, 5, 12, 8];
     let ended = crack_ended(setting(OPENING, EAST, 4, 1));
-    filter_row(b"Q, ends 1", &q, ended, &mut result);
+    filter_row(rt, "Q, ends 1", &q, ended, &mut result)
 }
 
-fn two_gaps() {
+fn two_gaps(rt: &impl Print) -> io::Result<()> {
     let mut result = [0i16; 5];
     let row = [9i16, 1, 9, 9, 1];
     let three = crack_ended(setting(OPENING, EAST, 3, 1));
-    filter_row(b"two gaps by 3, ends 1", &row, three, &mut result);
+    filter_row(rt, "two gaps by 3, ends 1", &row, three, &mut result)?;
     let pairs = crack_ended(setting(OPENING, EAST, 2, 1));
-    filter_row(b"two gaps by 2, ends 1", &row, pairs, &mut result);
+    filter_row(rt, "two gaps by 2, ends 1", &row, pairs, &mut result)
 }
 
-pub(crate) fn end_rows() {
-    gap_first();
-    dark_gap_first();
-    gap_between();
-    two_gaps();
+pub(crate) fn end_rows(rt: &impl Print) -> io::Result<()> {
+    gap_first(rt)?;
+    dark_gap_first(rt)?;
+    gap_between(rt)?;
+    two_gaps(rt)
 }

@@ -1,65 +1,66 @@
 // Prints a filtered plate, or two, or the refusal.
-use libc::STDOUT_FILENO;
 use plate::Answer;
+use std::io;
 
-// A level in decimal, by its key: how far it stands above -32,768.
-fn print_level(v: i16) {
-    let key = plate::key_of(v) as u64;
-    if key < 32768 {
-        io::write_all(STDOUT_FILENO, b"-");
-        io::print_decimal(STDOUT_FILENO, 32768 - key);
-    } else {
-        io::print_decimal(STDOUT_FILENO, key - 32768);
-    }
+// A level in decimal, with its sign.
+fn print_level(rt: &impl Print, v: i16) -> io::Result<()> {
+    print!(rt; "{v}")
 }
 
 // "NAME: level,level,.." or "NAME: refused NUMBER", and a newline.
-pub(crate) fn print_plate(name: &[u8], answer: Answer, levels: &[i16]) {
-    io::write_all(STDOUT_FILENO, name);
-    print_answer(answer, levels);
+pub(crate) fn print_plate(
+    rt: &impl Print,
+    name: &str,
+    answer: Answer,
+    levels: &[i16],
+) -> io::Result<()> {
+    print!(rt; "{name}")?;
+    print_answer(rt, answer, levels)
 }
 
 // The same after the name.
-pub(crate) fn print_answer(answer: Answer, levels: &[i16]) {
-    io::write_all(STDOUT_FILENO, b": ");
+pub(crate) fn print_answer(rt: &impl Print, answer: Answer, levels: &[i16]) -> io::Result<()> {
+    print!(rt; ": ")?;
     match answer {
-        Answer::Done => print_levels(levels),
-        Answer::Refused { number, place: _ } => print_refused(number),
+        Answer::Done => print_levels(rt, levels)?,
+        Answer::Refused { number, place: _ } => print_refused(rt, number)?,
     }
-    io::write_all(STDOUT_FILENO, b"\n");
+    println!(rt)
 }
 
 // "NAME: level,level,.. to level,level,.." or "NAME: refused NUMBER at PLACE", and a newline.
-pub(crate) fn print_bounds(name: &[u8], answer: Answer, lowest: &[i16], highest: &[i16]) {
-    io::write_all(STDOUT_FILENO, name);
-    io::write_all(STDOUT_FILENO, b": ");
+pub(crate) fn print_bounds(
+    rt: &impl Print,
+    name: &str,
+    answer: Answer,
+    lowest: &[i16],
+    highest: &[i16],
+) -> io::Result<()> {
+    print!(rt; "{name}: ")?;
     match answer {
         Answer::Done => {
-            print_levels(lowest);
-            io::write_all(STDOUT_FILENO, b" to ");
-            print_levels(highest);
+            print_levels(rt, lowest)?;
+            print!(rt; " to ")?;
+            print_levels(rt, highest)?;
         }
         Answer::Refused { number, place } => {
-            print_refused(number);
-            io::write_all(STDOUT_FILENO, b" at ");
-            io::print_decimal(STDOUT_FILENO, place as u64);
+            print_refused(rt, number)?;
+            print!(rt; " at {place}")?;
         }
     }
-    io::write_all(STDOUT_FILENO, b"\n");
+    println!(rt)
 }
 
-fn print_refused(number: usize) {
-    io::write_all(STDOUT_FILENO, b"refused ");
-    io::print_decimal(STDOUT_FILENO, number as u64);
+fn print_refused(rt: &impl Print, number: usize) -> io::Result<()> {
+    print!(rt; "refused {number}")
 }
 
-fn print_levels(levels: &[i16]) {
-    let mut i = 0;
-    while i < levels.len() {
+fn print_levels(rt: &impl Print, levels: &[i16]) -> io::Result<()> {
+    for i in 0..levels.len() {
         if 0 < i {
-            io::write_all(STDOUT_FILENO, b",");
+            print!(rt; ",")?;
         }
-        print_level(levels[i]);
-        i += 1;
+        print_level(rt, levels[i])?;
     }
+    Ok(())
 }

@@ -8,8 +8,8 @@ ghost use Rattle.theory.specs.SievingTwice.{filtered_by};
 
 use crate::printing::print_answer;
 use crate::settings::{CLOSING, EAST, OPENING, setting};
-use libc::STDOUT_FILENO;
 use plate::{Answer, Setting};
+use std::io;
 
 // Reads every level, since a proof learns that a level has 16 bits, as its type says, only where it is read.
 fn read_through(plate: &[i16])
@@ -56,78 +56,92 @@ fn sieve_twice(
 }
 
 // "NAME by LENGTH".
-fn print_by(name: &[u8], length: usize) {
-    io::write_all(STDOUT_FILENO, name);
-    io::write_all(STDOUT_FILENO, b" by ");
-    io::print_decimal(STDOUT_FILENO, length as u64);
+fn print_by(rt: &impl Print, name: &str, length: usize) -> io::Result<()> {
+    print!(rt; "{name} by {length}")
 }
 
-fn sieve_once(name: &[u8], row: &[i16], setting: Setting, res: &mut [i16]) {
+fn sieve_once(
+    rt: &impl Print,
+    name: &str,
+    row: &[i16],
+    setting: Setting,
+    res: &mut [i16],
+) -> io::Result<()> {
     let mut work = [4321u16; 40];
     let answer = engine::filter(row.len(), 1, row, setting, res, &mut work);
-    print_by(name, setting.length);
-    print_answer(answer, res);
+    print_by(rt, name, setting.length)?;
+    print_answer(rt, answer, res)
 }
 
 fn sieve_in_order(
-    name: &[u8],
+    rt: &impl Print,
+    name: &str,
     row: &[i16],
     setting: Setting,
     other: usize,
     between: &mut [i16],
     res: &mut [i16],
-) {
+) -> io::Result<()> {
     let mut work = [4321u16; 40];
     let answer = sieve_twice(row.len(), 1, row, setting, other, between, res, &mut work);
-    print_by(name, setting.length);
-    print_by(b", then", other);
-    print_answer(answer, res);
+    print_by(rt, name, setting.length)?;
+    print_by(rt, ", then", other)?;
+    print_answer(rt, answer, res)
 }
 
 // By either length alone, and by both in either order.
 fn sieve_row(
-    name: &[u8],
+    rt: &impl Print,
+    name: &str,
     row: &[i16],
     short: Setting,
     long: Setting,
     between: &mut [i16],
     res: &mut [i16],
-) {
-    sieve_once(name, row, short, res);
-    sieve_once(name, row, long, res);
-    sieve_in_order(name, row, short, long.length, between, res);
-    sieve_in_order(name, row, long, short.length, between, res);
+) -> io::Result<()> {
+    sieve_once(rt, name, row, short, res)?;
+    sieve_once(rt, name, row, long, res)?;
+    sieve_in_order(rt, name, row, short, long.length, between, res)?;
+    sieve_in_order(rt, name, row, long, short.length, between, res)
 }
 
-fn sieve_four(name: &[u8], mode: usize, short: usize, long: usize) {
+fn sieve_four(
+    rt: &impl Print,
+    name: &str,
+    mode: usize,
+    short: usize,
+    long: usize,
+) -> io::Result<()> {
     let q = [9i16, 5, 12, 8];
     let mut between = [0i16; 4];
     let mut result = [0i16; 4];
     sieve_row(
+        rt,
         name,
         &q,
         setting(mode, EAST, short, 1),
         setting(mode, EAST, long, 1),
         &mut between,
         &mut result,
-    );
+    )
 }
 
-pub(crate) fn sieve_rows() {
-    sieve_four(b"Q", OPENING, 2, 4);
-    sieve_four(b"Q closing", CLOSING, 2, 4);
+pub(crate) fn sieve_rows(rt: &impl Print) -> io::Result<()> {
+    sieve_four(rt, "Q", OPENING, 2, 4)?;
+    sieve_four(rt, "Q closing", CLOSING, 2, 4)?;
     // there is no path of five pixels
-    sieve_four(b"Q", OPENING, 3, 5);
-    sieve_four(b"Q closing", CLOSING, 3, 5);
+    sieve_four(rt, "Q", OPENING, 3, 5)?;
+    sieve_four(rt, "Q closing", CLOSING, 3, 5)?;
     let z = [3i16, 9, 9, 2, 9, 9, 9, 1];
     let mut between = [0i16; 8];
     let mut result = [0i16; 8];
     sieve_row(
-        b"Z",
+        rt,
+        "Z",
         &z,
         setting(OPENING, EAST, 2, 0),
         setting(OPENING, EAST, 3, 0),
         &mut between,
         &mut result,
-    );
+    )
 }
