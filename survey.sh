@@ -11,9 +11,7 @@ fail() {
     exit 1
 }
 
-# How many of the crates that the program rests on are proved, by the log, and which come now: those of
-# the lowest level that has an unproved one. A crate is a level above the highest that it uses, and
-# crates.txt has the lowest first.
+# How many of the crates that the program rests on are proved, by the log, and which comes now.
 progress() {
     awk '
         FNR == NR {
@@ -22,10 +20,10 @@ progress() {
             if (NF == 0) next
             name[++n] = $1
             uses[$1] = $0
-            for (i = 2; i <= NF; i++) if (level[$i] >= level[$1]) level[$1] = level[$i] + 1
             next
         }
-        /^rt: [a-z0-9_]+ proved/ { proved[$2] }
+        /^rt: chose --jobs [0-9]+ for / { now = $NF }
+        /^logic=proved/ { done++; now = "" }
         END {
             wanted["survey"]
             for (i = n; i > 0; i--) {
@@ -33,9 +31,6 @@ progress() {
                 all++
                 m = split(uses[name[i]], used, " ")
                 for (k = 2; k <= m; k++) wanted[used[k]]
-                if (name[i] in proved) done++
-                else if (now == "" || level[name[i]] < low) { low = level[name[i]]; now = name[i] }
-                else if (level[name[i]] == low) now = name[i] ", " now
             }
             printf "%d of %d crates proved%s\n", done, all, now == "" ? "" : ", now " now
         }' "$here/crates.txt" "$log"
@@ -65,13 +60,14 @@ mkdir -p "$here/target"
 watch 3>&2 </dev/null >/dev/null 2>&1 &
 watcher=$!
 trap 'kill $watcher 2>/dev/null' EXIT
-(cd "$here" && rt check survey) </dev/null >"$log" 2>&1 || {
+# It is run once on nothing, which proves and builds it.
+(cd "$here/crates/survey" && rt run) </dev/null >"$log" 2>&1 || {
     tail -n 5 "$log" >&2
     fail "the program is not proved, so it is not built; target/survey.log has all that was said"
 }
 kill $watcher
 trap - EXIT
 if [ $# -eq 1 ]; then
-    exec "$here/target/bin/survey" <"$1"
+    exec "$here/crates/survey/out/survey" <"$1"
 fi
-exec "$here/target/bin/survey"
+exec "$here/crates/survey/out/survey"
