@@ -11,8 +11,8 @@ pub struct Key {
 
 // A finding with its serial number: the key, and the level and the direction (its bit; document 01: way) that
 // the trace has found.
-#[repr(C)]
 #[derive(Clone, Copy)]
+#[repr(C)]
 pub struct Entry {
     pub serial: u32,
     pub plate: u16,

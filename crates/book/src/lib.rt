@@ -20,8 +20,8 @@ pub use entry::{Entry, Key};
 use plate::{Answer, refusal};
 
 // The first `count` entries stand, in the order of entering; `last` is the last serial number given.
-#[repr(C)]
 #[derive(Clone, Copy)]
+#[repr(C)]
 pub struct Book {
     pub last: u32,
     pub count: usize,
@@ -29,8 +29,8 @@ pub struct Book {
 }
 
 // What a call hands back: the number of a refusal, else 0, and the book.
-#[repr(C)]
 #[derive(Clone, Copy)]
+#[repr(C)]
 pub struct Kept {
     pub number: usize,
     pub book: Book,

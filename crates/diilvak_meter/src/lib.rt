@@ -10,8 +10,8 @@ ghost use Rattle.diilvak_meter.specs.Reports.{version, figure_of, meter_of};
 use meter::{Correction, Figure, Meter};
 
 // A figure as C has it. `drifting` is 0 for a steady one, whose second number is not looked at.
-#[repr(C)]
 #[derive(Clone, Copy)]
+#[repr(C)]
 pub struct Reported {
     pub first: f32,
     pub second: f32,
@@ -19,8 +19,8 @@ pub struct Reported {
 }
 
 // Both figures as C has them.
-#[repr(C)]
 #[derive(Clone, Copy)]
+#[repr(C)]
 pub struct Report {
     pub lamp: Reported,
     pub dark: Reported,

@@ -6,8 +6,8 @@ use book::Key;
 use plate::Setting;
 
 // The plate's number in the book, and the place on it.
-#[repr(C)]
 #[derive(Clone, Copy)]
+#[repr(C)]
 pub struct Pixel {
     pub plate: u16,
     pub place: usize,

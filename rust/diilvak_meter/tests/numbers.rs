@@ -39,7 +39,7 @@ fn refusals() {
 #[test]
 fn limit() {
     let definition = read("crates/meter/specs/Numbers.antt");
-    let quarters = definition.lines().find_map(|line| line.strip_prefix("maxQuarters = "));
+    let quarters = definition.lines().find_map(|line| line.strip_prefix("max_quarters = "));
     assert_eq!(quarters.unwrap().parse(), Ok(4 * macros()["MAX_FIGURE"]));
     assert_eq!(limits::MAX_FIGURE, macros()["MAX_FIGURE"] as f32);
     let word = |dark| Meter { lamp: Figure::Steady(0.0), dark: Figure::Steady(dark) }.word();
