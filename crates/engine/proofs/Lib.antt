@@ -3,3 +3,4 @@ pub mod SweepLaws
 pub mod FinishLaws
 pub mod FilteredLaws
 pub mod SievingTwice
+pub mod SievedCalls

@@ -2,14 +2,12 @@
 -- the first has left, fill the result as one call by the larger length does. Nothing but the contract is used: what an accepted call leaves is the filtered plate, and
 -- check 3 has let its setting through, so k is below its length.
 use Prim.Native.Nat.{ℕ, ◌<◌, max}
-use mathlib.Core.Path.{◌≡◌, sym, ap, ◌∙◌}
+use mathlib.Core.Path.{◌≡◌, ap, ◌∙◌}
 use mathlib.Core.List.{List}
 use lib.ListN.{length}
 use lib.IntN.{ℤ}
-use Rattle.plate.specs.Answers.{result_after}
 use Rattle.plate.specs.declared.setting.Setting.{Setting}
-use Rattle.plate.specs.declared.answer.Answer.{Answer}
-use Rattle.plate.specs.declared.answer.Answer.TheVariants.{Done, Refused}
+use Rattle.plate.specs.declared.answer.Answer.TheVariants.{Done}
 use Rattle.plate.proofs.Calls.{filter_gaps_below}
 use Rattle.theory.specs.Modes.{Levels}
 use Rattle.theory.specs.SievingTwice.{with_length, filtered_by}
@@ -28,17 +26,3 @@ module _ (s : Setting) (free : s.ends ≡ 0) (W H : ℕ) where
       second.fills
       ∙ ap (filtered_by s W H L) first.fills
       ∙ (sieved_twice s W H K L plate levels (record { below_K = done_below first; below_L = done_below second; free_ends = free })).K_then_L
-
-  -- so one call by the larger length, where it is accepted, leaves the same
-  pub as_one_call :
-      {K L : ℕ} {plate between filled once old old' old'' : List ℤ} → Levels plate → FilterCall W H (with_length s K) plate Done old between →
-      FilterCall W H (with_length s L) between Done old' filled → FilterCall W H (with_length s (max K L)) plate Done old'' once → filled ≡ once
-  as_one_call levels first second one = two_calls levels first second ∙ sym one.fills
-
-  -- and with whatever the second call answers: refused, it leaves its result as it was
-  pub second_call :
-      {K L : ℕ} {plate between filled old old' : List ℤ} → Levels plate → FilterCall W H (with_length s K) plate Done old between →
-      (answer : Answer) → FilterCall W H (with_length s L) between answer old' filled →
-      filled ≡ result_after answer (filtered_by s W H (max K L) plate) old'
-  second_call levels first Done second = two_calls levels first second
-  second_call levels first (Refused number place) second = second.fills

@@ -2,7 +2,7 @@
 -- applies, whatever they did inside.
 use mathlib.Core.Path.{sym, ap, ◌∙◌}
 use Rattle.plate.specs.Answers.{answered}
-use Rattle.engine.proofs.SievingTwice.{second_call}
+use Rattle.engine.proofs.SievedCalls.{second_call}
 use Rattle.filter_cases.proofs.sieving.sieve_twice.Goals as goal
 
 pub returns : goal.returns
