@@ -1,7 +1,7 @@
 -- Document 01, section 6: reading a plate's text, in the order in which it is judged: the text's length, the lines up to `height=`, refusals 1 and 14
 -- on the size, then the other lines. Both editions (document 02, N5) are read by these rules; edition 2 has one line more, `ends=`.
 use Rattle.std.specs.Prelude.{ℕ, zero, suc, ◌+◌, ◌*◌, cond, List, [], ◌∷◌, ◌++◌, ltb, length}
-use Rattle.std.proofs.Math.Option.{Option, none, some}
+use mathlib.Core.Option.{Option, none, some}
 use Rattle.plate.specs.RefusalNumbers.{refusal_line, refusal_large}
 use Rattle.plate.specs.Refusals.{Verdict, Verdict.accepted, Verdict.refused, row, judged, size_check}
 use Rattle.plate.specs.declared.setting.Setting.{Setting}

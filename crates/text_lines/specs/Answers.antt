@@ -1,6 +1,6 @@
 -- For the reader's inner contracts alone: what the functions that read a line answer, case by case, in the definitions' terms.
 use Rattle.std.specs.Prelude.{ℕ, ◌+◌, ◌-◌, ◌≤◌, ◌<◌, Bool, true, false, List, [], ◌∷◌, take, drop}
-use Rattle.std.proofs.Math.Option.{Option, none, some}
+use mathlib.Core.Option.{Option, none, some}
 use Rattle.text_lines.specs.Format.{number}
 use Rattle.text_lines.specs.declared.number.Number.{Number}
 use Rattle.text_lines.specs.declared.number.Number.TheVariants.{Is, Bad}

@@ -1,7 +1,7 @@
 -- Document 01, section 6: the form of a line of a plate's text, and of the numbers, editions and lists that stand on it, as lists of bytes, in both
 -- editions (document 02, N5). A part that does not have its form is `none`, malformed. Which lines a text has: survey_text/specs/Reading.antt.
 use Rattle.std.specs.Prelude.{ℕ, zero, suc, ◌+◌, ◌-◌, ◌*◌, Bool, cond, ◌&&◌, List, [], ◌∷◌, ltb, leb, eqb, length, take, drop}
-use Rattle.std.proofs.Math.Option.{Option, none, some}
+use mathlib.Core.Option.{Option, none, some}
 use Rattle.basics.specs.Lists.{first_of}
 use Rattle.text_lines.specs.Bytes.{newline, comma, zero_digit}
 
