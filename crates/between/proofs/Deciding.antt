@@ -1,6 +1,6 @@
 -- Which check of a call with two plates decides. `judge` is handed lengths that two buffers have in common, and comes to what checks 1 to 8 of both
 -- come to; where it passes them, check 20 is left, and each of the two filters is accepted.
-use Prim.Native.Nat.{ℕ, ◌*◌, ◌≤◌, ◌<◌}
+use Prim.Native.Nat.{ℕ, ◌*◌, ◌≤◌}
 use mathlib.Core.Path.{◌≡◌, refl, sym, ap, ◌∙◌}
 use mathlib.Core.Bool.{false, cond, not}
 use mathlib.Core.List.{List, [], ◌∷◌, ◌++◌}
@@ -9,18 +9,19 @@ use native.Mathlib.Omega.{arith}
 use lib.Dec.{eqb}
 use lib.ListN.{length}
 use lib.IntN.{ℤ}
+use Rattle.std.proofs.Common.{Option, Some, None, Result, Ok, Err}
 use borrow.Author.Tests.{eqb-true, not-false, lt-ltb, le-ltb}
-use Rattle.plate.specs.RefusalNumbers.{refusal_input, refusal_result, refusal_bounds}
-use Rattle.plate.specs.Refusals.{Verdict.accepted, Verdict.refused, Check, judged, Clear, bad_size, size_check, setting_checks, input_check, result_check, work_check, filter_checks, filter_verdict}
-use Rattle.plate.specs.Answers.{answered, call_verdict, result_after}
+use Rattle.plate.specs.RefusalNumbers.{refusal_input, refusal_result}
+use Rattle.plate.specs.Refusals.{Verdict, Verdict.accepted, Verdict.refused, Check, judged, Clear, bad_size, size_check, setting_checks, input_check, result_check, work_check, filter_checks, filter_verdict}
+use Rattle.plate.specs.Answers.{answered, placed_check, call_verdict}
 use Rattle.plate.specs.declared.setting.Setting.{Setting}
-use Rattle.plate.specs.declared.call.Fills.TheVariants.{Result}
+use Rattle.plate.specs.declared.call.Fills.TheVariants.{Result as Levels}
 use Rattle.plate.specs.declared.call.Lent.{Lent}
-use Rattle.plate.specs.declared.answer.Answer.{Answer}
-use Rattle.plate.specs.declared.answer.Answer.TheVariants.{Done, Refused}
+use Rattle.plate.specs.declared.refusal.Reason.TheVariants.{Bounds}
+use Rattle.plate.specs.declared.refusal.Refusal.{Refusal}
 use Rattle.plate.proofs.Sizes.{good_size}
 use Rattle.plate.proofs.Verdicts.{clear_accepted, accepted_clear, clash, refused_first, passed_first, clear_both, clear_first, same_after}
-use Rattle.between.specs.Lengths.{common_length}
+use Rattle.between.specs.Lengths.{common_length, Finds}
 use Rattle.between.specs.Refusals.{first_above, bounds_check, between_verdict}
 use Rattle.between.proofs.CommonLengths.{two_as_one}
 
@@ -30,24 +31,35 @@ some_pixel W H good =
     let size = good_size W H good in
     omega (arith, mul-le-mul {n₁ = 1} {m₁ = 1} {n₂ = W} {m₂ = H} size.wide size.high)
 
--- an accepted call has filled its result
-pub filled : (answer : Answer) (new old : List ℤ) → answered answer ≡ accepted tt → result_after answer new old ≡ new
-filled Done new old e = refl
-filled (Refused number place) new old e = clash (sym e)
+-- an accepted call is done
+pub done : (answer : Result Unit Refusal) → answered answer ≡ accepted tt → answer ≡ Ok tt
+done (Ok u) e = refl
+done (Err r) e = clash (sym e)
+
+-- check 20, of what the search has found
+module _ (low high : List ℤ) where
+  pub bounds_told : (found : Option ℕ) → Finds found low high → ◌≡◌ {A = Verdict Unit} (judged (placed_check Bounds found ∷ []) tt) (judged (bounds_check low high ∷ []) tt)
+  unfolding judged
+  bounds_told (Some x) f = rw (← f.0, lt-ltb x (length low) f.1)
+  bounds_told None f = rw (le-ltb (first_above low high) (length low) f)
+
+  pub none_above : (found : Option ℕ) → Finds found low high → ◌≡◌ {A = Verdict Unit} (accepted tt) (judged (placed_check Bounds found ∷ []) tt) → length low ≤ first_above low high
+  unfolding judged
+  none_above (Some x) f e = clash e
+  none_above None f e = f
 
 -- what is known once checks 1 to 8 have passed: check 20 decides, and each filter is accepted
 pub record BothPassed (W H : ℕ) (s : Setting) (low high : List ℤ) (lowRoom highRoom work : ℕ) : Type 0 where
   pub sized_low : length low ≡ W * H
   pub sized_high : length high ≡ W * H
-  pub refuses : (x : ℕ) → x ≡ first_above low high → x < length low → refused refusal_bounds x ≡ between_verdict W H s low high lowRoom highRoom work
-  pub accepts : length low ≤ first_above low high → accepted tt ≡ between_verdict W H s low high lowRoom highRoom work
+  pub decides : ◌≡◌ {A = Verdict Unit} (judged (bounds_check low high ∷ []) tt) (between_verdict W H s low high lowRoom highRoom work)
   pub filters_low : filter_verdict W H s (length low) lowRoom work ≡ accepted tt
   pub filters_high : filter_verdict W H s (length high) highRoom work ≡ accepted tt
 
 module _ (W H : ℕ) (s : Setting) (low high : List ℤ) (lowRoom highRoom work : ℕ) where
   -- what `judge` is handed
   abbrev pub lent : Lent
-  lent = record { input = common_length (length low) (length high); fills = Result; filled = common_length lowRoom highRoom; work = work }
+  lent = record { input = common_length (length low) (length high); fills = Levels; filled = common_length lowRoom highRoom; work = work }
 
   abbrev size_and_setting : List Check
   size_and_setting = size_check W H ∷ setting_checks s
@@ -90,14 +102,6 @@ module _ (W H : ℕ) (s : Setting) (low high : List ℤ) (lowRoom highRoom work 
     unfolding between_verdict
     bounds_decide = passed_first tt (size_and_setting ++ buffers) (bounds_check low high ∷ []) clear
 
-    bounds_refuse : (x : ℕ) → x ≡ first_above low high → x < length low → refused refusal_bounds x ≡ between_verdict W H s low high lowRoom highRoom work
-    unfolding judged
-    bounds_refuse x e h = rw e (rw (bounds_decide, lt-ltb (first_above low high) (length low) (omega (arith, e))))
-
-    bounds_pass : length low ≤ first_above low high → accepted tt ≡ between_verdict W H s low high lowRoom highRoom work
-    unfolding judged
-    bounds_pass h = rw (bounds_decide, le-ltb (first_above low high) (length low) h)
-
     filter_accepted : (plate room : ℕ) → not (eqb plate (W * H)) ≡ false → not (eqb room (W * H)) ≡ false → filter_verdict W H s plate room work ≡ accepted tt
     unfolding filter_verdict
     filter_accepted plate room input result =
@@ -110,8 +114,7 @@ module _ (W H : ℕ) (s : Setting) (low high : List ℤ) (lowRoom highRoom work 
         record {
           sized_low = eqb-true (length low) (W * H) (not-false _ buffers_clear.0);
           sized_high = eqb-true (length high) (W * H) (not-false _ buffers_clear.1.0);
-          refuses = bounds_refuse;
-          accepts = bounds_pass;
+          decides = sym bounds_decide;
           filters_low = filter_accepted (length low) lowRoom buffers_clear.0 buffers_clear.1.1.0;
           filters_high = filter_accepted (length high) highRoom buffers_clear.1.0 buffers_clear.1.1.1.0;
         }

@@ -18,7 +18,7 @@ mod lengths;
 
 use crate::above::first_above;
 use crate::lengths::common_length;
-use plate::{Answer, Fills, Lent, Setting, refusal};
+use plate::{Fills, Lent, Reason, Refusal, Setting};
 
 // Fills low and high with the filtered lowest and the filtered highest plate, or refuses (1 to 8, 18, 20)
 // before the first store: then all lent buffers are as they were. Both filters work in the one work buffer,
@@ -32,7 +32,7 @@ pub fn filter_between(
     low: &mut [i16],
     high: &mut [i16],
     work: &mut [u16],
-) -> Answer
+) -> Result<(), Refusal>
     ensures result_value { answered result ≡ between_verdict width height setting lowest.now highest.now (length low.old) (length high.old) (length work.old) }
     ensures low_after { low.new ≡ result_after result (filtered setting width height lowest.now) low.old }
     ensures high_after { high.new ≡ result_after result (filtered setting width height highest.now) high.old }
@@ -45,21 +45,9 @@ pub fn filter_between(
         filled: common_length(low.len(), high.len()),
         work: work.len(),
     };
-    let answer = plate::judge(width, height, setting, lent);
-    if let Answer::Refused { number, place } = answer {
-        return Answer::Refused {
-            number: number,
-            place: place,
-        };
-    }
-    let first = first_above(lowest, highest);
-    if first < lowest.len() {
-        return Answer::Refused {
-            number: refusal::BOUNDS,
-            place: first,
-        };
-    }
-    engine::filter(width, height, lowest, setting, low, work);
-    engine::filter(width, height, highest, setting, high, work);
-    Answer::Done
+    plate::judge(width, height, setting, lent)?;
+    Reason::Bounds.refuse_at(first_above(lowest, highest))?;
+    // Each filter's own checks are among those that have passed: neither refuses.
+    engine::filter(width, height, lowest, setting, low, work)?;
+    engine::filter(width, height, highest, setting, high, work)
 }

@@ -10,12 +10,12 @@ use lib.Dec.{eqb}
 use lib.ListN.{length, set, length-take, length-append}
 use lib.IntN.{ℤ}
 use lib.Seq.{length-take-le}
-use borrow.Author.Tests.{lt-ltb, le-ltb, ltb-false, eq-eqb, ne_eqb, eqb-true, eqb-false}
+use borrow.Author.Tests.{lt-ltb, le-ltb, ltb-false, eq-eqb, eqb-true, eqb-false}
 use Rattle.basics.proofs.Tests.{or_false_left, or_false_right}
 use Rattle.basics.proofs.Keeping.{Left, Left.all, Left.fewer, left_of}
 use Rattle.plate.specs.RefusalNumbers.{refusal_full, refusal_spent, refusal_no_entry}
-use Rattle.plate.specs.Refusals.{Verdict, Verdict.accepted, Verdict.refused, judged, Clear}
-use Rattle.plate.proofs.Verdicts.{clear_accepted, refused_same}
+use Rattle.plate.specs.Refusals.{Verdict, Verdict.refused, row, judged, Clear}
+use Rattle.plate.proofs.Verdicts.{clash, clear_accepted, refused_same}
 use Rattle.book.specs.Entries.{max_entries, max_serial, is_meant, others, entry_of, standing, book_of}
 use Rattle.book.specs.Refusals.{stands, overfull, is_full, is_spent, entry_checks, entered, enter_verdict, withdraw_verdict, withdrawn, handed_back}
 use Rattle.book.specs.declared.entry.Key.{Key}
@@ -25,6 +25,12 @@ use Rattle.book.specs.declared.target.Target.TheVariants.{OfKey, OfSerial}
 use Rattle.book.specs.declared.Book.{Book}
 use Rattle.book.specs.declared.Kept.{Kept}
 use Rattle.book.proofs.Taking.{slots_of, stored}
+
+-- a check of the code that refuses
+pub refusing : (fault : Bool) {number n p : ℕ} → refused n p ≡ judged {A = Unit} (row number fault 0 ∷ []) tt → (fault ≡ true) × (◌≡◌ {A = Verdict Unit} (refused n p) (refused number 0))
+unfolding judged
+refusing true e = (refl, e)
+refusing false e = clash (sym e)
 
 -- ---- a book that shows too many
 
@@ -100,13 +106,10 @@ module _ (b : Book) (few : b.count ≤ max_entries) (room : length b.entries ≡
         go false e = refl
         go true e = rw (other_count (OfKey key) r without (λ same. spare (omega (arith, same, eqb-true b.count max_entries e))))
 
-    pub entry_spent : (r.count ≡ max_entries → ⊥) → b.last ≡ max_serial → refused refusal_spent 0 ≡ judged {A = Unit} (entry_checks b key) tt
-    unfolding judged is_spent
-    entry_spent spare e = rw (not_full spare, eq-eqb b.last max_serial e)
-
-    pub entry_done : (r.count ≡ max_entries → ⊥) → (b.last ≡ max_serial → ⊥) → accepted tt ≡ judged {A = Unit} (entry_checks b key) tt
-    unfolding judged is_spent
-    entry_done spare more = rw (not_full spare, ne_eqb b.last max_serial more)
+    -- then the second decides
+    pub entry_decides : (r.count ≡ max_entries → ⊥) → judged {A = Unit} (row refusal_spent (is_spent b) 0 ∷ []) tt ≡ judged (entry_checks b key) tt
+    unfolding judged
+    entry_decides spare = rw (not_full spare)
 
 -- ---- a book that takes an entry
 

@@ -1,11 +1,12 @@
 -- Taking entries out of a book: those that stay move up, in their order, into slots that are empty.
 use Prim.Native.Nat.{ℕ, suc, ◌+◌, ◌-◌, ◌≤◌, ◌<◌}
-use mathlib.Core.Path.{◌≡◌, refl, sym, ap, ◌∙◌}
+use mathlib.Core.Path.{◌≡◌, sym, ap, ◌∙◌}
 use mathlib.Core.Bool.{true, false, not}
 use mathlib.Core.List.{List, [], ◌∷◌, ◌++◌}
 use native.Mathlib.Omega.{arith}
 use lib.ListN.{length, take, get_or, set, replicate, length-append}
 use lib.Seq.{append_snoc, set-append_seam, length-take-le}
+use Rattle.std.proofs.lemmas.List.{take_all}
 use Rattle.basics.specs.Lists.{keep}
 use Rattle.basics.proofs.Keeping.{kept_one, dropped_one, keep_shorter}
 use Rattle.book.specs.Entries.{max_entries, is_meant, others, empty_slot, book_of}
@@ -28,48 +29,48 @@ stored entries e room =
 
 -- ---- the loop
 
-module _ (target : Target) (self : Book) where
+module _ (target : Target) (entries : List Entry) where
   -- those of the first i that stay
   abbrev left_of : ℕ → List Entry
-  left_of i = others target (take i self.entries)
+  left_of i = others target (take i entries)
 
   -- after i entries the slots hold those of them that stay
-  pub record MovedUp (book : Book) (left i : ℕ) : Type 0 where
-    pub within : i ≤ self.count
-    pub count : left ≡ length (left_of i)
+  pub record MovedUp (book : Book) (i : ℕ) : Type 0 where
+    pub within : i ≤ length entries
+    pub count : book.count ≡ length (left_of i)
     pub slots : book.entries ≡ slots_of (left_of i)
 
   -- no more are left than were looked at
-  few : (i : ℕ) → i ≤ length self.entries → length (left_of i) ≤ i
-  few i h = omega (arith, keep_shorter (λ (e : Entry). not (is_meant target e)) (take i self.entries), length-take-le i self.entries h)
+  few : (i : ℕ) → i ≤ length entries → length (left_of i) ≤ i
+  few i h = omega (arith, keep_shorter (λ (e : Entry). not (is_meant target e)) (take i entries), length-take-le i entries h)
 
-  pub start : (book : Book) → book ≡ book_of 0 [] → MovedUp book 0 0
+  pub start : (book : Book) → book ≡ book_of 0 [] → MovedUp book 0
   unfolding keep
-  start book e = record { within = omega arith; count = refl; slots = ap (λ (b : Book). b.entries) e }
+  start book e = record { within = omega arith; count = ap (λ (b : Book). b.count) e; slots = ap (λ (b : Book). b.entries) e }
 
-  module _ (room : length self.entries ≡ max_entries) (shown : self.count ≤ max_entries) (book : Book) (left i : ℕ) (so_far : MovedUp book left i) (more : i < self.count) where
-    pub has_room : left < max_entries
+  module _ (shown : length entries ≤ max_entries) (book : Book) (i : ℕ) (so_far : MovedUp book i) (more : i < length entries) where
+    pub has_room : book.count < max_entries
     has_room = omega (arith, so_far.count, few i (omega arith))
 
-    pub stays : (d : Entry) → is_meant target (get_or self.entries i d) ≡ false →
-        MovedUp (record { last = book.last; count = book.count; entries = set book.entries left (get_or self.entries i d) }) (left + 1) (i + 1)
+    pub stays : (d : Entry) → is_meant target (get_or entries i d) ≡ false →
+        MovedUp (record { last = book.last; count = book.count + 1; entries = set book.entries book.count (get_or entries i d) }) (i + 1)
     stays d e =
-        let kept = kept_one (λ (x : Entry). not (is_meant target x)) self.entries i d (omega arith) (ap not e) in
+        let kept = kept_one (λ (x : Entry). not (is_meant target x)) entries i d (omega arith) (ap not e) in
         record {
           within = omega arith;
-          count = rw (kept, length-append (left_of i) (get_or self.entries i d ∷ [])) (omega (arith, so_far.count));
-          slots = rw (kept, so_far.slots, so_far.count) (stored (left_of i) (get_or self.entries i d) (omega (arith, has_room, so_far.count)));
+          count = rw (kept, length-append (left_of i) (get_or entries i d ∷ [])) (omega (arith, so_far.count));
+          slots = rw (kept, so_far.slots, so_far.count) (stored (left_of i) (get_or entries i d) (omega (arith, has_room, so_far.count)));
         }
 
-    pub goes : (d : Entry) → is_meant target (get_or self.entries i d) ≡ true → MovedUp book left (i + 1)
+    pub goes : (d : Entry) → is_meant target (get_or entries i d) ≡ true → MovedUp book (i + 1)
     goes d e =
-        let dropped = dropped_one (λ (x : Entry). not (is_meant target x)) self.entries i d (omega arith) (ap not e) in
+        let dropped = dropped_one (λ (x : Entry). not (is_meant target x)) entries i d (omega arith) (ap not e) in
         record { within = omega arith; count = so_far.count ∙ sym (ap length dropped); slots = so_far.slots ∙ sym (ap slots_of dropped) }
 
-  pub ends : (book : Book) (left i : ℕ) → MovedUp book left i → self.count ≤ i →
-      ◌≡◌ {A = Book} (record { last = self.last; count = left; entries = book.entries }) (book_of self.last (left_of self.count))
-  ends book left i so_far h =
-      let e : i ≡ self.count = omega (arith, so_far.within) in
-      let count : left ≡ length (left_of self.count) = rw e at so_far.count in
-      let slots : book.entries ≡ slots_of (left_of self.count) = rw e at so_far.slots in
-      λ j. record { last = self.last; count = count j; entries = slots j }
+  pub ends : (last : ℕ) (book : Book) (i : ℕ) → MovedUp book i → length entries ≤ i →
+      ◌≡◌ {A = Book} (record { last = last; count = book.count; entries = book.entries }) (book_of last (others target entries))
+  ends last book i so_far h =
+      let all : take i entries ≡ entries = take_all i entries h in
+      let count : book.count ≡ length (others target entries) = rw all at so_far.count in
+      let slots : book.entries ≡ slots_of (others target entries) = rw all at so_far.slots in
+      λ j. record { last = last; count = count j; entries = slots j }

@@ -8,7 +8,7 @@
 
 ghost use Rattle.std.specs.Prelude.{◌≡◌, [], ◌≤◌};
 ghost use Rattle.plate.specs.Refusals.{judged};
-ghost use Rattle.plate.specs.Answers.{answered};
+ghost use Rattle.plate.specs.Answers.{answered, number_by};
 ghost use Rattle.book.specs.Entries.{others, standing, book_of};
 ghost use Rattle.book.specs.Refusals.{entry_checks, enter_verdict, withdraw_verdict, handed_back};
 
@@ -17,9 +17,10 @@ mod target;
 
 use crate::target::{Target, is_meant};
 pub use entry::{Entry, Key};
-use plate::{Answer, refusal};
+use plate::{Reason, Refusal};
 
 // The first `count` entries stand, in the order of entering; `last` is the last serial number given.
+// By hand, an array with a count beside: C has it by value (include/diilvak_book.h).
 #[derive(Clone, Copy)]
 #[repr(C)]
 pub struct Book {
@@ -29,6 +30,7 @@ pub struct Book {
 }
 
 // What a call hands back: the number of a refusal, else 0, and the book.
+// By hand in place of a Result: C has it by value (include/diilvak_book.h).
 #[derive(Clone, Copy)]
 #[repr(C)]
 pub struct Kept {
@@ -45,27 +47,19 @@ impl Book {
     pub fn new() -> Book
         ensures { result ≡ book_of 0 [] }
     {
-        let empty = Entry {
-            serial: 0,
-            plate: 0,
-            place: 0,
-            mode: 0,
-            level: 0,
-            direction: 0,
-        };
         Book {
             last: 0,
             count: 0,
-            entries: [empty; 256],
+            entries: [Entry::default(); 256],
         }
     }
 
     // A refusal, with the book as it came.
-    fn refused(self, number: usize) -> Kept
-        ensures { result ≡ record { number = number; book = self } }
+    fn refused(self, reason: Reason) -> Kept
+        ensures { result ≡ record { number = number_by reason; book = self } }
     {
         Kept {
-            number: number,
+            number: reason.number(),
             book: self,
         }
     }
@@ -76,75 +70,49 @@ impl Book {
         ensures { result ≡ book_of self.last (others target (standing self)) }
     {
         let mut book = Book::new();
-        let count = self.count;
-        let mut left = 0;
-        let mut i = 0;
-        while i < count {
-            let entry = self.entries[i];
-            if !is_meant(target, entry) {
-                book.entries[left] = entry;
-                left += 1;
+        for entry in &self.entries[..self.count] {
+            if !is_meant(target, *entry) {
+                let at = book.count;
+                book.entries[at] = *entry;
+                book.count = at + 1;
             }
-            i += 1;
         }
         book.last = self.last;
-        book.count = left;
         book
     }
 
     // Refuses an entry for a key (15, 16), or is done: then the book would take one. All that it asks is known
     // before there is a finding, so a caller can ask before it traces.
-    pub fn judge(self, key: Key) -> Answer
+    pub fn judge(self, key: Key) -> Result<(), Refusal>
         ensures { answered result ≡ judged (entry_checks self key) tt }
     {
-        if self.count > Book::MAX_ENTRIES {
-            return Answer::Refused {
-                number: refusal::FULL,
-                place: 0,
-            };
-        }
+        Reason::Full.refuse_if(self.count > Book::MAX_ENTRIES)?;
         let rest = self.without(Target::OfKey(key));
-        if rest.count == Book::MAX_ENTRIES {
-            return Answer::Refused {
-                number: refusal::FULL,
-                place: 0,
-            };
-        }
-        if self.last == Book::MAX_SERIAL {
-            return Answer::Refused {
-                number: refusal::SPENT,
-                place: 0,
-            };
-        }
-        Answer::Done
+        Reason::Full.refuse_if(rest.count == Book::MAX_ENTRIES)?;
+        Reason::Spent.refuse_if(self.last == Book::MAX_SERIAL)
     }
 
     // Enters a finding under the next serial number, in place of every entry of its key; or refuses (15, 16).
     pub fn enter(self, key: Key, level: i16, direction: usize) -> Kept
         ensures { result ≡ handed_back (enter_verdict self key level direction) self }
     {
-        let answer = self.judge(key);
-        if let Answer::Refused { number, place: _ } = answer {
-            return self.refused(number);
+        if let Err(refusal) = self.judge(key) {
+            return self.refused(refusal.reason);
         }
         let mut book = self.without(Target::OfKey(key));
         let at = book.count;
         let serial = self.last + 1;
-        let entry = Entry {
-            serial: serial,
+        book.entries[at] = Entry {
+            serial,
             plate: key.plate,
             place: key.place,
             mode: key.mode,
-            level: level,
-            direction: direction,
+            level,
+            direction,
         };
-        book.entries[at] = entry;
         book.count = at + 1;
         book.last = serial;
-        Kept {
-            number: 0,
-            book: book,
-        }
+        Kept { number: 0, book }
     }
 
     // Takes out every entry of a serial number; or refuses (15, 17). The counter stays: no serial number is given
@@ -153,11 +121,11 @@ impl Book {
         ensures { result ≡ handed_back (withdraw_verdict self serial) self }
     {
         if self.count > Book::MAX_ENTRIES {
-            return self.refused(refusal::FULL);
+            return self.refused(Reason::Full);
         }
         let rest = self.without(Target::OfSerial(serial));
         if rest.count == self.count {
-            return self.refused(refusal::NO_ENTRY);
+            return self.refused(Reason::NoEntry);
         }
         Kept {
             number: 0,

@@ -1,4 +1,5 @@
-// The entries that a call takes out: those of a key, or those of a serial number.
+// The entries that a call takes out: those of a key, or those of a serial number. An enum and no closure, since
+// the definitions `is_meant` and `others` speak of it.
 ghost use Rattle.std.specs.Prelude.{◌≡◌};
 ghost use Rattle.book.specs.Entries.{is_meant};
 
@@ -15,15 +16,7 @@ pub(crate) fn is_meant(target: Target, entry: Entry) -> bool
     ensures { result ≡ is_meant target entry }
 {
     match target {
-        Target::OfKey(key) => {
-            if entry.plate != key.plate {
-                return false;
-            }
-            if entry.place != key.place {
-                return false;
-            }
-            entry.mode == key.mode
-        }
+        Target::OfKey(key) => Key::from(entry) == key,
         Target::OfSerial(serial) => entry.serial == serial,
     }
 }

@@ -1,61 +1,31 @@
--- What the faults that were found say of the correction's verdict, once size and lengths have passed: a bad reading decides, then a bad correction,
--- else the call is accepted and no reading and no correction is bad.
-use Prim.Native.Nat.{ℕ, ◌*◌, ◌≤◌, min}
-use mathlib.Core.Path.{◌≡◌, sym, ap, ◌∙◌}
-use mathlib.Core.Bool.{false}
+-- What the walk's faults say of the table's rows for readings and corrections, once both lists have one length: the check of what was found is
+-- the row itself.
+use Prim.Native.Nat.{ℕ, min}
+use mathlib.Core.Path.{◌≡◌, ap, ◌∙◌}
+use mathlib.Core.Bool.{Bool}
 use mathlib.Core.List.{List, [], ◌∷◌}
+use mathlib.Core.Logic.{⊎_elim}
+use lib.Dec.{ltb}
 use lib.ListN.{length}
-use borrow.Author.Tests.{eq-eqb, lt-ltb, le-ltb}
 use Rattle.basics.specs.Lists.{first_of}
-use Rattle.plate.specs.Refusals.{Verdict.accepted, Verdict.refused, bad_size, bad_reading, bad_correction, judged, readings_check, corrections_check, correction_verdict}
-use Rattle.plate.specs.RefusalNumbers.{refusal_reading, refusal_correction}
+use Rattle.basics.proofs.Tests.{true_or_false}
+use Rattle.plate.specs.Refusals.{Verdict, row, judged, bad_reading, bad_correction, readings_check, corrections_check}
+use Rattle.plate.specs.Answers.{number_by, placed_check}
+use Rattle.plate.specs.declared.refusal.Reason.{Reason}
+use Rattle.plate.specs.declared.refusal.Reason.TheVariants.{Reading, Correction}
 use Rattle.correction.specs.Faults.{first_bad, faults_after}
 use Rattle.correction.specs.declared.faults.Faults.{Faults}
-use Rattle.correction.specs.declared.faults.FirstFault.TheVariants.{Nowhere, At}
-use Rattle.correction.proofs.FirstFaults.{all_readings, all_corrections, at_first, nowhere_none}
+use Rattle.correction.proofs.FirstFaults.{all_readings, all_corrections}
 
--- the faults of a plate whose size and lengths are as they have to be
-pub record FaultsFound (W H : ℕ) (readings words : List ℕ) (room : ℕ) (faults : Faults) : Type 0 where
-  pub size : bad_size W H ≡ false
-  pub readings_many : length readings ≡ W * H
-  pub words_many : length words ≡ W * H
-  pub room_many : room ≡ W * H
-  pub found : faults ≡ faults_after (min (length readings) (length words)) readings words
+same_row :
+    (reason : Reason) (bad : ℕ → Bool) (xs : List ℕ) →
+    ◌≡◌ {A = Verdict (Unit {0})} (judged (placed_check reason (first_bad bad xs) ∷ []) tt) (judged (row (number_by reason) (ltb (first_of bad xs) (length xs)) (first_of bad xs) ∷ []) tt)
+unfolding first_bad judged
+same_row reason bad xs = ⊎_elim (λ t. rw t) (λ t. rw t) (true_or_false (ltb (first_of bad xs) (length xs)))
 
-module _ {W H : ℕ} {readings words : List ℕ} {room : ℕ} {faults : Faults} (f : FaultsFound W H readings words room faults) where
-  same : length readings ≡ length words
-  same = f.readings_many ∙ sym f.words_many
+module _ (readings words : List ℕ) (same : length readings ≡ length words) (faults : Faults) (found : faults ≡ faults_after (min (length readings) (length words)) readings words) where
+  pub row_of_readings : ◌≡◌ {A = Verdict (Unit {0})} (judged (placed_check Reading faults.reading ∷ []) tt) (judged (readings_check readings ∷ []) tt)
+  row_of_readings = rw (ap (λ (g : Faults). g.reading) found ∙ all_readings readings words same) (same_row Reading bad_reading readings)
 
-  first_of_readings : faults.reading ≡ first_bad bad_reading readings
-  first_of_readings = ap (λ (g : Faults). g.reading) f.found ∙ all_readings readings words same
-
-  first_of_words : faults.correction ≡ first_bad bad_correction words
-  first_of_words = ap (λ (g : Faults). g.correction) f.found ∙ all_corrections readings words same
-
-  pub no_bad_reading : faults.reading ≡ Nowhere → length readings ≤ first_of bad_reading readings
-  no_bad_reading e = nowhere_none bad_reading readings (sym first_of_readings ∙ e)
-
-  pub no_bad_correction : faults.correction ≡ Nowhere → length words ≤ first_of bad_correction words
-  no_bad_correction e = nowhere_none bad_correction words (sym first_of_words ∙ e)
-
-  -- the checks of size and lengths pass, so the last two decide
-  last_two : correction_verdict W H readings words room ≡ judged (readings_check readings ∷ corrections_check words ∷ []) tt
-  unfolding correction_verdict judged
-  last_two = simp (f.size, eq-eqb _ _ f.readings_many, eq-eqb _ _ f.words_many, eq-eqb _ _ f.room_many)
-
-  -- a bad reading wins, wherever it stands and whatever the corrections are
-  pub reading_wins : (place : ℕ) → faults.reading ≡ At place → refused refusal_reading place ≡ correction_verdict W H readings words room
-  unfolding judged
-  reading_wins place e =
-      let h = at_first bad_reading readings place (sym first_of_readings ∙ e) in
-      rw last_two (simp (h.0, lt-ltb _ _ h.1))
-
-  pub correction_next : faults.reading ≡ Nowhere → (place : ℕ) → faults.correction ≡ At place → refused refusal_correction place ≡ correction_verdict W H readings words room
-  unfolding judged
-  correction_next n place e =
-      let h = at_first bad_correction words place (sym first_of_words ∙ e) in
-      rw last_two (simp (le-ltb _ _ (no_bad_reading n), h.0, lt-ltb _ _ h.1))
-
-  pub no_fault : faults.reading ≡ Nowhere → faults.correction ≡ Nowhere → accepted tt ≡ correction_verdict W H readings words room
-  unfolding judged
-  no_fault n m = rw last_two (simp (le-ltb _ _ (no_bad_reading n), le-ltb _ _ (no_bad_correction m)))
+  pub row_of_corrections : ◌≡◌ {A = Verdict (Unit {0})} (judged (placed_check Correction faults.correction ∷ []) tt) (judged (corrections_check words ∷ []) tt)
+  row_of_corrections = rw (ap (λ (g : Faults). g.correction) found ∙ all_corrections readings words same) (same_row Correction bad_correction words)

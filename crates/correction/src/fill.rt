@@ -21,9 +21,7 @@ pub(crate) fn fill(readings: &[u16], words: &[u16], res: &mut [i16])
     requires words_len_bound { length words.now ≤ first_of bad_correction words.now }
     ensures { res.new ≡ corrected_plate readings.now words.now }
 {
-    let mut i = 0;
-    while i < readings.len() {
+    for i in 0..readings.len() {
         res[i] = corrected_level(readings[i], words[i]);
-        i += 1;
     }
 }

@@ -15,8 +15,8 @@ mod faults;
 mod fill;
 
 use crate::fill::fill;
-pub use faults::{Faults, FirstFault, MAX_CORRECTION, MAX_READING, MIN_CORRECTION, find_faults};
-use plate::{Answer, refusal};
+pub use faults::{Faults, MAX_CORRECTION, MAX_READING, MIN_CORRECTION, find_faults};
+use plate::{Reason, Refusal};
 
 // Fills result with the corrected levels. All readings are judged before any correction, and both
 // before the first store.
@@ -26,50 +26,18 @@ pub fn correct(
     readings: &[u16],
     words: &[u16],
     res: &mut [i16],
-) -> Answer
+) -> Result<(), Refusal>
     ensures result_value { answered result ≡ correction_verdict width height readings.now words.now (length res.old) }
     ensures res_after { res.new ≡ result_after result (corrected_plate readings.now words.now) res.old }
 {
-    if plate::bad_size(width, height) {
-        return Answer::Refused {
-            number: refusal::SIZE,
-            place: 0,
-        };
-    }
+    Reason::Size.refuse_if(plate::bad_size(width, height))?;
     let pixels = width * height;
-    if readings.len() != pixels {
-        return Answer::Refused {
-            number: refusal::INPUT,
-            place: 0,
-        };
-    }
-    if words.len() != pixels {
-        return Answer::Refused {
-            number: refusal::INPUT,
-            place: 0,
-        };
-    }
-    if res.len() != pixels {
-        return Answer::Refused {
-            number: refusal::RESULT,
-            place: 0,
-        };
-    }
+    Reason::Input.refuse_if(readings.len() != pixels)?;
+    Reason::Input.refuse_if(words.len() != pixels)?;
+    Reason::Result.refuse_if(res.len() != pixels)?;
     let faults = find_faults(readings, words);
-    let reading = faults.reading;
-    if let FirstFault::At(place) = reading {
-        return Answer::Refused {
-            number: refusal::READING,
-            place: place,
-        };
-    }
-    let correction = faults.correction;
-    if let FirstFault::At(place) = correction {
-        return Answer::Refused {
-            number: refusal::CORRECTION,
-            place: place,
-        };
-    }
+    Reason::Reading.refuse_at(faults.reading)?;
+    Reason::Correction.refuse_at(faults.correction)?;
     fill(readings, words, res);
-    Answer::Done
+    Ok(())
 }

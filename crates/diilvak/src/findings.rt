@@ -54,11 +54,8 @@ pub extern "C" fn diilvak_enter_trace(
 {
     let setting = setting_of(length, gaps, directions, mode, ends);
     let done = entering::enter_trace(width, height, plate, setting, pixel, book, path, work);
-    let after = done.book;
-    let traced = done.traced;
-    let number = tell_trace(traced, direction, level);
     Kept {
-        number: number,
-        book: after,
+        number: tell_trace(done.traced, direction, level),
+        book: done.book,
     }
 }

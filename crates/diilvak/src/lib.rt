@@ -22,8 +22,8 @@ mod taking;
 mod telling;
 
 use crate::taking::setting_of;
-use crate::telling::{tell, tell_trace};
-use plate::{Answer, Made, Moved, Setting, Walker};
+use crate::telling::{number_of, tell, tell_trace};
+use plate::{Setting, Walker};
 
 // This version, 0.6.0, as one number: major * 10000 + minor * 100 + patch.
 const VERSION: usize = 600;
@@ -47,11 +47,7 @@ pub extern "C" fn diilvak_check_setting(
 ) -> usize
     ensures { result ≡ number_of (setting_verdict (setting_of length gaps directions mode ends)) }
 {
-    let made = Setting::new(length, gaps, directions, mode, ends);
-    match made {
-        Made::Valid(_) => 0,
-        Made::Refused { number, place: _ } => number,
-    }
+    number_of(Setting::new(length, gaps, directions, mode, ends))
 }
 
 // Each reading plus its signed correction; `place` gets the refusal's place, 0 where there is none.
@@ -86,18 +82,17 @@ pub extern "C" fn diilvak_step(
     ensures to_after { to.new ≡ place_after (walked (record { width = width; height = height; direction = direction; place = place }) number) to.old }
 {
     let walker = Walker {
-        width: width,
-        height: height,
-        direction: direction,
-        place: place,
+        width,
+        height,
+        direction,
+        place,
     };
-    let moved = walker.step(number);
-    match moved {
-        Moved::To(w) => {
-            *to = w.place;
+    match walker.step(number) {
+        Some(moved) => {
+            *to = moved.place;
             1
         }
-        Moved::Leaves => 0,
+        None => 0,
     }
 }
 
@@ -136,10 +131,7 @@ pub extern "C" fn diilvak_filter(
 {
     let setting = setting_of(length, gaps, directions, mode, ends);
     let answer = engine::filter(width, height, plate, setting, res, work);
-    match answer {
-        Answer::Done => 0,
-        Answer::Refused { number, place: _ } => number,
-    }
+    number_of(answer)
 }
 
 // The filtered lowest plate in `low` and the filtered highest in `high`, between which every plate between

@@ -4,7 +4,8 @@ ghost use Rattle.diilvak.specs.Numbers.{setting_of};
 
 use plate::Setting;
 
-// The setting of five numbers, not judged here: every call that takes one does that.
+// The setting of five numbers, not judged here: every call that takes one does that. By hand: C hands the five
+// over one by one (include/diilvak.h).
 pub(crate) fn setting_of(
     length: usize,
     gaps: usize,
@@ -15,10 +16,10 @@ pub(crate) fn setting_of(
     ensures { result ≡ setting_of length gaps directions mode ends }
 {
     Setting {
-        length: length,
-        gaps: gaps,
-        directions: directions,
-        mode: mode,
-        ends: ends,
+        length,
+        gaps,
+        directions,
+        mode,
+        ends,
     }
 }

@@ -7,9 +7,10 @@ ghost use Rattle.plate.specs.Telling.{number_of, value_after};
 ghost use Rattle.meter.specs.Corrections.{meter_verdict};
 ghost use Rattle.diilvak_meter.specs.Reports.{version, figure_of, meter_of};
 
-use meter::{Correction, Figure, Meter};
+use meter::{Figure, Meter};
 
-// A figure as C has it. `drifting` is 0 for a steady one, whose second number is not looked at.
+// A figure as C has it. `drifting` is 0 for a steady one, whose second number is not looked at. By hand in place
+// of the enum: C has it by value (include/diilvak_meter.h).
 #[derive(Clone, Copy)]
 #[repr(C)]
 pub struct Reported {
@@ -37,15 +38,27 @@ pub extern "C" fn diilvak_meter_version() -> usize
     VERSION
 }
 
-impl Reported {
-    // The figure that is meant.
-    fn figure(self) -> Figure
-        ensures { result ≡ figure_of self }
-    {
-        if self.drifting == 0 {
-            return Figure::Steady(self.first);
+// The figure that is meant.
+impl From<Reported> for Figure {
+    ghost from_gives = { λ r f. f ≡ figure_of r };
+
+    fn from(reported: Reported) -> Figure {
+        if reported.drifting == 0 {
+            return Figure::Steady(reported.first);
         }
-        Figure::Drifting(self.first, self.second)
+        Figure::Drifting(reported.first, reported.second)
+    }
+}
+
+// Both figures that are meant.
+impl From<Report> for Meter {
+    ghost from_gives = { λ r m. m ≡ meter_of r };
+
+    fn from(report: Report) -> Meter {
+        Meter {
+            lamp: Figure::from(report.lamp),
+            dark: Figure::from(report.dark),
+        }
     }
 }
 
@@ -55,18 +68,11 @@ pub extern "C" fn diilvak_meter_word(report: Report, word: &mut u16) -> usize
     ensures value { result ≡ number_of (meter_verdict (meter_of report)) }
     ensures word_after { word.new ≡ value_after (meter_verdict (meter_of report)) word.old }
 {
-    let lamp = report.lamp;
-    let dark = report.dark;
-    let meter = Meter {
-        lamp: lamp.figure(),
-        dark: dark.figure(),
-    };
-    let correction = meter.correction();
-    match correction {
-        Correction::Word(w) => {
-            *word = w;
+    match Meter::from(report).correction() {
+        Ok(given) => {
+            *word = given;
             0
         }
-        Correction::Refused { number, place: _ } => number,
+        Err(refusal) => refusal.number(),
     }
 }

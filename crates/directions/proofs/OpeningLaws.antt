@@ -61,16 +61,6 @@ module _ (r : Frame) (W H index : ℕ) (framed : Framed r W H index) (of : Frame
   pub long_enough : (L : ℕ) → L ≤ span W H (2 ^ index) → L ≤ r.lines + cond r.diagonal (r.across - 1) 0
   long_enough L h = omega (arith, framed.long)
 
-  -- what is asked to plan a side
-  pub side_asked : (along_rows back : Bool) → along_rows ≡ by_rows W H index → (L : ℕ) → 1 ≤ L → L ≤ 1024 → L ≤ span W H (2 ^ index) →
-      (Oriented r (record { index = index; rows = along_rows; back = back }) × (1 ≤ r.lines) × (1 ≤ r.across) × (r.lines ≤ 1024) × (r.across ≤ 1024))
-      × ((1 ≤ L) × (L ≤ 1024) × (L ≤ r.lines + cond r.diagonal (r.across - 1) 0))
-  side_asked along_rows back is L some few long =
-      let size = framed.bounded in (
-        (oriented along_rows back is, size.some_lines, size.some_across, size.few_lines, size.few_across),
-        (some, few, long_enough L long),
-      )
-
   module _ (L : ℕ) (some : 1 ≤ L) (few : L ≤ 1024) (long : L ≤ span W H (2 ^ index)) (along_rows : Bool) (planes slack k : ℕ) (is-planes : planes ≡ k + 1)
       (few_gaps : k ≤ 8) where
     abbrev side : Bool → Plan

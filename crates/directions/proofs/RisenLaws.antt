@@ -1,7 +1,7 @@
 -- Levels that rise to the numbers kept for them, one number more at a time. The level at the number's place becomes the higher of both, and no other
 -- changes: whatever was not below the old levels and not below the numbers so far is still not below the new ones.
 use Prim.Native.Nat.{ℕ, ◌+◌, ◌≤◌, ◌<◌, max}
-use mathlib.Core.Path.{◌≡◌, refl, sym, ap, subst, ◌∙◌}
+use mathlib.Core.Path.{◌≡◌, sym, ap, subst, ◌∙◌}
 use mathlib.Core.Bool.{Bool}
 use mathlib.Core.List.{List}
 use mathlib.Core.Logic.{inl, inr}
@@ -28,13 +28,6 @@ raised_level xs x v t fv fx on e =
     ap key (to_z-of_z {w = w16} {z = v} (record { sfits = fv })) ∙ level_read (λ u. max (key u) t) xs x (key v) fx on e
 
 module _ (r : Frame) (ranked : Bool) (best : List ℕ) where
-  pub risen_none : (old : List ℤ) (lo hi : ℕ) → lo ≡ hi → Risen r ranked best old old lo hi
-  risen_none old lo hi e =
-      record { grown = λ p. omega arith; reached = λ q a b. absurd (omega arith); bounded = λ b h p. omega arith; len = refl }
-
-  pub risen_ends : (old new : List ℤ) (lo hi n : ℕ) → Risen r ranked best old new lo hi → hi ≡ n → Risen r ranked best old new lo n
-  risen_ends old new lo hi n s e = subst (λ (m : ℕ). Risen r ranked best old new lo m) e s
-
   -- one store more
   module _ (old new : List ℤ) (lo hi at : ℕ) (v : ℤ) (s : Risen r ranked best old new lo hi) (ordered : lo ≤ hi) (is_at : at ≡ place_kept r ranked hi)
       (on : at < length new) (is : key v ≡ max (key_at new at) (get_or best hi 0)) where

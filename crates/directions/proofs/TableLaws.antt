@@ -2,7 +2,7 @@
 -- four directions, and for each of them everything computes.
 use Prim.Native.Nat.{ℕ, ◌≤◌, ◌<◌}
 use mathlib.Core.Path.{◌≡◌, refl, sym, subst, ◌∙◌}
-use mathlib.Core.Bool.{Bool, true, false, cond, not, ◌&&◌, true≢false}
+use mathlib.Core.Bool.{Bool, true, false, beq, cond, not, ◌&&◌, true≢false}
 use native.Mathlib.Omega.{arith}
 use lib.Dec.{leb, eqb}
 use borrow.Author.Tests.{leb-true, leb-false, eq-eqb, ne_eqb}
@@ -18,6 +18,13 @@ use Rattle.plans.specs.declared.plan.Reach.{Reach}
 use Rattle.directions.specs.Plans.{reach_by, reach_in, pixels_on, lines_on, row_by, by_rows, FrameOf, Oriented}
 use Rattle.directions.specs.Doors.{frame_of}
 use Rattle.directions.specs.declared.plan.Course.{Course}
+
+-- what differs from whether it is backwards is turned once more where it is
+pub turned_once : (turned back : Bool) → not (beq turned back) ≡ cond back (not turned) turned
+turned_once true true = refl
+turned_once true false = refl
+turned_once false true = refl
+turned_once false false = refl
 
 -- ---- the frame
 

@@ -19,10 +19,6 @@ use Rattle.directions.proofs.TableLaws.{frame_known}
 
 -- ---- the spot of a place
 
--- a plate with a place on it has columns
-pub some_columns : (W H p : ℕ) → p < W * H → 0 < W
-some_columns W H p on = omega (arith, column_below W H p on)
-
 -- a spot by the numbers that are turned
 spot_at : (r : Frame) (i x p : ℕ) → i < r.lines → x < r.across → i * r.leap + x * r.hop ≡ p → SpotOf r (spot_in r i x) p
 unfolding place_in

@@ -1,6 +1,6 @@
 -- What the doors of this crate answer, whatever numbers they are asked with: each judges first, and these are its tests. These definitions serve
 -- contracts inside the engine only: no public contract cites them.
-use Rattle.std.specs.Prelude.{ℕ, ◌+◌, ◌*◌, ◌/◌, ◌%◌, Bool, false, cond, not, ◌&&◌, ◌||◌, List, leb, ltb, eqb, ℤ}
+use Rattle.std.specs.Prelude.{ℕ, ◌+◌, ◌*◌, ◌/◌, ◌%◌, Bool, false, cond, not, ◌&&◌, ◌||◌, List, leb, ltb, eqb, ℤ, Option, Some, None}
 use Rattle.plate.specs.Limits.{max_length, max_gaps}
 use Rattle.plate.specs.Sizes.{span_of}
 use Rattle.plate.specs.declared.setting.Setting.{Setting}
@@ -8,9 +8,8 @@ use Rattle.frames.specs.Steps.{columns_on, rows_on}
 use Rattle.frames.specs.Frames.{counted_from}
 use Rattle.frames.specs.declared.frame.Frame.{Frame}
 use Rattle.theory.specs.Walks.{opposite}
-use Rattle.plans.specs.declared.plan.Plan.{Plan}
 use Rattle.states.specs.Runs.{Between}
-use Rattle.directions.specs.Plans.{by_rows, reach_by}
+use Rattle.directions.specs.Plans.{by_rows}
 use Rattle.directions.specs.Numbers.{place_kept, keys_by, SmallKept}
 use Rattle.directions.specs.Traces.{trace_plan, trace_states}
 use Rattle.directions.specs.declared.frame.Spot.{Spot}
@@ -61,47 +60,18 @@ pub record Laid (W H index : ℕ) (ranked : Bool) (mode : ℕ) (plate : List ℤ
 unfoldable pub place_kept_by : ℕ → ℕ → ℕ → Bool → ℕ → ℕ
 place_kept_by W H index ranked q = cond (keeps W H index ranked && ltb q (W * H)) (place_kept (frame_of W H index) ranked q) 0
 
--- a side without walks
-abbrev pub no_plan : Plan
-no_plan =
-    record {
-      planes = 0;
-      lines = 0;
-      across = 0;
-      rows = 0;
-      orders = 0;
-      origin = 0;
-      back = false;
-      still = false;
-      ranked = false;
-      top = 0;
-      bottom = 0;
-      left = 0;
-      right = 0;
-      linked = false;
-      lone = false;
-      pixel = 0;
-      slack = 0;
-      reach = reach_by 0 0 0 0 0 0;
-    }
-
-abbrev pub no_frame : Frame
-no_frame = record { lines = 0; across = 0; leap = 0; hop = 0; flipped = false; mirrored = false; diagonal = false }
-
-abbrev pub no_sight : Sight
-no_sight = record { frame = no_frame; plan = no_plan; states = 0 }
-
 -- the walks on from the pixel at a place, or back from it; none where the numbers do not fit. A number is made of those one step nearer to the pixel, so
 -- the walks on are swept by the steps back.
-unfoldable pub sight_of : ℕ → ℕ → Setting → ℕ → Bool → ℕ → Sight
+unfoldable pub sight_of : ℕ → ℕ → Setting → ℕ → Bool → ℕ → Option Sight
 sight_of W H s index backwards at =
     let r = frame_of W H index in
     let spot = spot_of W H index at in
     let back = opposite backwards in
     cond (fits W H s index && ltb at (W * H))
+    (Some
     (record {
       frame = r;
       plan = trace_plan r (by_rows W H index) back s.length (s.gaps + 1) spot;
       states = trace_states r back s.length spot;
-    })
-    no_sight
+    }))
+    None

@@ -65,6 +65,30 @@ pub record Oriented (r : Frame) (c : Course) : Type 0 where
 
 -- ---- the plans
 
+-- rows of the lines, or ranks, of an area: what the three plans below have in common
+abbrev pub area_plan : Frame → Course → Area → Bool → ℕ → ℕ → Plan
+area_plan r c a ranked rows planes =
+    record {
+      planes = planes;
+      lines = r.lines;
+      across = r.across;
+      rows = rows;
+      orders = a.bottom - a.top;
+      origin = cond c.back (a.bottom - 1) a.top;
+      back = c.back;
+      still = false;
+      ranked = ranked;
+      top = a.top;
+      bottom = a.bottom;
+      left = a.left;
+      right = a.right;
+      linked = r.diagonal;
+      lone = a.lone;
+      pixel = a.pixel;
+      slack = a.slack;
+      reach = reach_in r c.rows ranked c.back;
+    }
+
 -- windows of lines: state e is the lines from e on, row m those after m steps
 abbrev pub straight_plan : Frame → Bool → Area → ℕ → ℕ → Plan
 straight_plan r back a rows planes =

@@ -3,12 +3,12 @@
 ghost use Rattle.std.specs.Prelude.{◌≡◌};
 ghost use Rattle.directions.specs.Doors.{fits, opens, keeps, lays};
 
-use crate::frame::frame_of;
+use crate::frame::Way;
 use plate::Setting;
 
 // Whether the plate has paths of the setting's length in the direction at this index, within the limits.
-pub(crate) fn fits_plate(width: usize, height: usize, setting: Setting, index: usize) -> bool
-    ensures { result ≡ fits width height setting index }
+pub(crate) fn fits_plate(way: Way, setting: Setting) -> bool
+    ensures { result ≡ fits way.width way.height setting way.index }
 {
     if setting.length < 1 {
         return false;
@@ -19,25 +19,17 @@ pub(crate) fn fits_plate(width: usize, height: usize, setting: Setting, index: u
     if setting.gaps > Setting::MAX_GAPS {
         return false;
     }
-    setting.length <= plate::span_of(width, height, index)
+    setting.length <= plate::span_of(way.width, way.height, way.index)
 }
 
 // The same, and the lengths of plate, result and work.
-pub(crate) fn opens_plate(
-    width: usize,
-    height: usize,
-    setting: Setting,
-    index: usize,
-    plate: usize,
-    res: usize,
-    work: usize,
-) -> bool
-    ensures { result ≡ opens width height setting index plate res work }
+pub(crate) fn opens_plate(way: Way, setting: Setting, plate: usize, res: usize, work: usize) -> bool
+    ensures { result ≡ opens way.width way.height setting way.index plate res work }
 {
-    if !fits_plate(width, height, setting, index) {
+    if !fits_plate(way, setting) {
         return false;
     }
-    let pixels = width * height;
+    let pixels = way.width * way.height;
     if plate != pixels {
         return false;
     }
@@ -48,34 +40,27 @@ pub(crate) fn opens_plate(
 }
 
 // Whether there is such a direction, and its keys can be kept by lines, or by ranks.
-pub(crate) fn keeps_keys(width: usize, height: usize, index: usize, ranked: bool) -> bool
-    ensures { result ≡ keeps width height index ranked }
+pub(crate) fn keeps_keys(way: Way, ranked: bool) -> bool
+    ensures { result ≡ keeps way.width way.height way.index ranked }
 {
-    if plate::span_of(width, height, index) < 1 {
+    if plate::span_of(way.width, way.height, way.index) < 1 {
         return false;
     }
     if !ranked {
         return true;
     }
-    let frame = frame_of(width, height, index);
+    let frame = way.frame();
     frame.across <= frame.lines
 }
 
 // The same, and the lengths of plate and work.
-pub(crate) fn lays_keys(
-    width: usize,
-    height: usize,
-    index: usize,
-    ranked: bool,
-    plate: usize,
-    work: usize,
-) -> bool
-    ensures { result ≡ lays width height index ranked plate work }
+pub(crate) fn lays_keys(way: Way, ranked: bool, plate: usize, work: usize) -> bool
+    ensures { result ≡ lays way.width way.height way.index ranked plate work }
 {
-    if !keeps_keys(width, height, index, ranked) {
+    if !keeps_keys(way, ranked) {
         return false;
     }
-    let pixels = width * height;
+    let pixels = way.width * way.height;
     if plate != pixels {
         return false;
     }

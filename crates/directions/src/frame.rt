@@ -18,50 +18,6 @@ pub struct Spot {
     pub pixel: usize,
 }
 
-// Whether the lines are rows of the plate: they are where the middle step changes the row alone; on the
-// diagonals the shorter of the two are lines.
-pub(crate) fn by_rows(width: usize, height: usize, index: usize) -> bool
-    ensures { result ≡ by_rows width height index }
-{
-    if frames::columns_on(index, 1, false) == 1 {
-        return true;
-    }
-    if frames::rows_on(index, 1, false) == 1 {
-        return false;
-    }
-    width <= height
-}
-
-// The frame of the direction at this index of the step table.
-pub(crate) fn frame_of(width: usize, height: usize, index: usize) -> Frame
-    ensures { result ≡ frame_of width height index }
-{
-    // the middle step's changes plus one
-    let column = frames::columns_on(index, 1, false);
-    let row = frames::rows_on(index, 1, false);
-    let diagonal = column != 1 && row != 1;
-    if by_rows(width, height, index) {
-        return Frame {
-            lines: height,
-            across: width,
-            leap: width,
-            hop: 1,
-            flipped: row == 2,
-            mirrored: column == 2,
-            diagonal: diagonal,
-        };
-    }
-    Frame {
-        lines: width,
-        across: height,
-        leap: 1,
-        hop: width,
-        flipped: column == 2,
-        mirrored: row == 2,
-        diagonal: diagonal,
-    }
-}
-
 // A number below n, or counted from the last one.
 fn counted_from(last: bool, n: usize, i: usize) -> usize
     requires { i < n }
@@ -81,21 +37,76 @@ pub(crate) fn place(frame: Frame, line: usize, pixel: usize) -> usize
     i * frame.leap + x * frame.hop
 }
 
-// Where the pixel at a place stands in the frame of this direction.
-pub(crate) fn spot_of(width: usize, height: usize, index: usize, frame: Frame, at: usize) -> Spot
-    requires { (GoodSize width height) × (index < 4) × (frame ≡ frame_of width height index) × (at < width * height) }
-    ensures { result ≡ spot_of width height index at }
-{
-    let column = at % width;
-    let row = at / width;
-    if by_rows(width, height, index) {
-        return Spot {
-            line: counted_from(frame.flipped, frame.lines, row),
-            pixel: counted_from(frame.mirrored, frame.across, column),
-        };
+// A direction of the step table, by its index there, on a plate of this size.
+#[derive(Clone, Copy)]
+pub(crate) struct Way {
+    pub(crate) width: usize,
+    pub(crate) height: usize,
+    pub(crate) index: usize,
+}
+
+impl Way {
+    // Whether the lines are rows of the plate: they are where the middle step changes the row alone; on the
+    // diagonals the shorter of the two are lines.
+    pub(crate) fn by_rows(self) -> bool
+        ensures { result ≡ by_rows self.width self.height self.index }
+    {
+        if frames::columns_on(self.index, 1, false) == 1 {
+            return true;
+        }
+        if frames::rows_on(self.index, 1, false) == 1 {
+            return false;
+        }
+        self.width <= self.height
     }
-    Spot {
-        line: counted_from(frame.flipped, frame.lines, column),
-        pixel: counted_from(frame.mirrored, frame.across, row),
+
+    // The direction's frame.
+    pub(crate) fn frame(self) -> Frame
+        ensures { result ≡ frame_of self.width self.height self.index }
+    {
+        // the middle step's changes plus one
+        let column = frames::columns_on(self.index, 1, false);
+        let row = frames::rows_on(self.index, 1, false);
+        let diagonal = column != 1 && row != 1;
+        if self.by_rows() {
+            return Frame {
+                lines: self.height,
+                across: self.width,
+                leap: self.width,
+                hop: 1,
+                flipped: row == 2,
+                mirrored: column == 2,
+                diagonal,
+            };
+        }
+        Frame {
+            lines: self.width,
+            across: self.height,
+            leap: 1,
+            hop: self.width,
+            flipped: column == 2,
+            mirrored: row == 2,
+            diagonal,
+        }
+    }
+
+    // Where the pixel at a place stands in the frame.
+    pub(crate) fn spot_of(self, at: usize) -> Spot
+        requires { (GoodSize self.width self.height) × (self.index < 4) × (at < self.width * self.height) }
+        ensures { result ≡ spot_of self.width self.height self.index at }
+    {
+        let frame = self.frame();
+        let column = at % self.width;
+        let row = at / self.width;
+        if self.by_rows() {
+            return Spot {
+                line: counted_from(frame.flipped, frame.lines, row),
+                pixel: counted_from(frame.mirrored, frame.across, column),
+            };
+        }
+        Spot {
+            line: counted_from(frame.flipped, frame.lines, column),
+            pixel: counted_from(frame.mirrored, frame.across, row),
+        }
     }
 }

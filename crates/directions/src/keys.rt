@@ -2,75 +2,35 @@
 ghost use Rattle.std.specs.Prelude.{◌≡◌, ℕ, ◌+◌, ◌*◌, ◌≤◌, ◌<◌, length};
 ghost use Rattle.basics.specs.Cases.{EitherBy};
 ghost use Rattle.states.specs.Runs.{Between};
-ghost use Rattle.directions.specs.Numbers.{KeptOn, line_kept, place_kept, keys_by, SmallKept};
+ghost use Rattle.directions.specs.Numbers.{place_kept, keys_by, SmallKept};
 ghost use Rattle.directions.specs.Doors.{lays, place_kept_by, Laid};
 
 use crate::fits::{keeps_keys, lays_keys};
-use crate::frame::{frame_of, place};
-use frames::Frame;
-
-// The line of the frame whose pixel x has its key in this row of keys.
-pub(crate) fn line_kept(frame: Frame, ranked: bool, row: usize, x: usize) -> usize
-    requires kept_on { KeptOn frame ranked }
-    requires row_lt_lines { (row < frame.lines) × (x < frame.across) }
-    ensures { (result ≡ line_kept frame ranked row x) × (result < frame.lines) }
-{
-    if !ranked {
-        return row;
-    }
-    if x <= row {
-        return row - x;
-    }
-    row + frame.lines - x
-}
-
-// The place of the pixel whose key stands at q.
-fn place_in(frame: Frame, ranked: bool, q: usize) -> usize
-    requires kept_on { KeptOn frame ranked }
-    requires q_bound { q < frame.lines * frame.across }
-    ensures { result ≡ place_kept frame ranked q }
-{
-    let x = q % frame.across;
-    let line = line_kept(frame, ranked, q / frame.across, x);
-    place(frame, line, x)
-}
+use crate::frame::Way;
+use crate::kept::Kept;
 
 // One row of keys.
-fn fill_key_row(
-    work: &mut [u16],
-    plate: &[i16],
-    frame: Frame,
-    ranked: bool,
-    mode: usize,
-    row: usize,
-    at: usize,
-)
-    requires kept_on { KeptOn frame ranked }
-    requires row_lt_lines { (row < frame.lines) × (at ≡ row * frame.across) × (frame.lines * frame.across ≤ length work.old) × (length plate.now ≡ frame.lines * frame.across) }
-    ensures between { Between (λ (q : ℕ). keys_by mode plate.now (place_kept frame ranked q)) work.old work.new at (at + frame.across) }
-    ensures small_kept { SmallKept plate.now frame ranked at (at + frame.across) }
+// By hand: x is counted and the row no slice of its own, since x tells the pixel's place as well as its key's.
+fn fill_key_row(work: &mut [u16], plate: &[i16], kept: Kept, mode: usize, row: usize)
+    requires { (row < kept.frame.lines) × (kept.frame.lines * kept.frame.across ≤ length work.old) × (length plate.now ≡ kept.frame.lines * kept.frame.across) }
+    ensures between { Between (λ (q : ℕ). keys_by mode plate.now (place_kept kept.frame kept.ranked q)) work.old work.new (row * kept.frame.across) (row * kept.frame.across + kept.frame.across) }
+    ensures small_kept { SmallKept plate.now kept.frame kept.ranked (row * kept.frame.across) (row * kept.frame.across + kept.frame.across) }
 {
-    let mut x = 0;
-    while x < frame.across {
-        let line = line_kept(frame, ranked, row, x);
-        work[at + x] = frames::key_by(mode, plate[place(frame, line, x)]);
-        x += 1;
+    let at = row * kept.frame.across;
+    for x in 0..kept.frame.across {
+        let p = kept.place_of(row, x);
+        work[at + x] = frames::key_by(mode, plate[p]);
     }
 }
 
 // All keys.
-pub(crate) fn fill_keys(work: &mut [u16], plate: &[i16], frame: Frame, ranked: bool, mode: usize)
-    requires kept_on { KeptOn frame ranked }
-    requires across_in_bounds { (frame.lines * frame.across ≤ length work.old) × (length plate.now ≡ frame.lines * frame.across) }
-    ensures between { Between (λ (q : ℕ). keys_by mode plate.now (place_kept frame ranked q)) work.old work.new 0 (frame.lines * frame.across) }
-    ensures small_kept { SmallKept plate.now frame ranked 0 (frame.lines * frame.across) }
+pub(crate) fn fill_keys(work: &mut [u16], plate: &[i16], kept: Kept, mode: usize)
+    requires { (kept.frame.lines * kept.frame.across ≤ length work.old) × (length plate.now ≡ kept.frame.lines * kept.frame.across) }
+    ensures between { Between (λ (q : ℕ). keys_by mode plate.now (place_kept kept.frame kept.ranked q)) work.old work.new 0 (kept.frame.lines * kept.frame.across) }
+    ensures small_kept { SmallKept plate.now kept.frame kept.ranked 0 (kept.frame.lines * kept.frame.across) }
 {
-    let mut row = 0;
-    let mut at = 0;
-    while row < frame.lines {
-        fill_key_row(work, plate, frame, ranked, mode, row, at);
-        row += 1;
-        at += frame.across;
+    for row in 0..kept.frame.lines {
+        fill_key_row(work, plate, kept, mode, row);
     }
 }
 
@@ -88,22 +48,35 @@ pub fn lay_keys(
     ensures value { result ≡ lays width height index ranked (length plate.now) (length work.old) }
     ensures either { EitherBy result (Laid width height index ranked mode plate.now work.old work.new) (work.new ≡ work.old) }
 {
-    if !lays_keys(width, height, index, ranked, plate.len(), work.len()) {
+    let way = Way {
+        width,
+        height,
+        index,
+    };
+    if !lays_keys(way, ranked, plate.len(), work.len()) {
         return false;
     }
-    fill_keys(work, plate, frame_of(width, height, index), ranked, mode);
+    let frame = way.frame();
+    fill_keys(work, plate, Kept { frame, ranked }, mode);
     true
 }
 
 // The place of the pixel whose key stands at q, of the direction at this index; 0 where there is none.
+// By hand: the definition `place_kept_by` (specs/Doors.antt) gives a place of whatever is asked.
 pub fn place_kept(width: usize, height: usize, index: usize, ranked: bool, q: usize) -> usize
     ensures { result ≡ place_kept_by width height index ranked q }
 {
-    if !keeps_keys(width, height, index, ranked) {
+    let way = Way {
+        width,
+        height,
+        index,
+    };
+    if !keeps_keys(way, ranked) {
         return 0;
     }
     if q >= width * height {
         return 0;
     }
-    place_in(frame_of(width, height, index), ranked, q)
+    let frame = way.frame();
+    Kept { frame, ranked }.place_at(q)
 }

@@ -1,2 +1,1 @@
 pub mod TurnedLaws
-pub mod EightLaws

@@ -1,13 +1,15 @@
 // Eight numbers of 16 bits at once, as one register of the processor holds them.
 //
 // What is held has its highest bit turned: the greater of two such words is that of two signed ones, for
-// which there is one instruction where others need two or three. Eights go by value, and each function is
-// one loop over eight places that neither reads nor writes memory of others; so the compiler makes one
+// which there is one instruction where others need two or three. Eights go by value, and each function makes
+// an array place by place, and neither reads nor writes memory of others; so the compiler makes one
 // instruction of it, without a test whether anything overlaps.
 #![tactic(auto)]
 
 ghost use Rattle.std.specs.Prelude.{◌≡◌, ℕ, min, max, get_or};
 ghost use Rattle.eights.specs.Turned.{turned, Standing};
+
+use std::{array, cmp};
 
 // The lowest number, turned.
 pub const NOTHING: u16 = 32768;
@@ -27,50 +29,32 @@ pub fn turn(a: u16) -> u16
 fn greater_of(a: u16, b: u16) -> u16
     ensures { turned result ≡ max (turned a) (turned b) }
 {
-    if turn(a) > turn(b) { a } else { b }
+    cmp::max_by_key(a, b, |v| turn(*v))
 }
 
 fn lower_of(a: u16, b: u16) -> u16
     ensures { turned result ≡ min (turned a) (turned b) }
 {
-    if turn(a) < turn(b) { a } else { b }
+    cmp::min_by_key(a, b, |v| turn(*v))
 }
 
 // Eight numbers turned.
 pub fn turn_all(a: [u16; 8]) -> [u16; 8]
     ensures { Standing result (λ (i : ℕ). get_or a i 0) }
 {
-    let mut r: [u16; 8] = [0; 8];
-    let mut i = 0;
-    while i < 8 {
-        r[i] = turn(a[i]);
-        i += 1;
-    }
-    r
+    array::from_fn(|i| turn(a[i]))
 }
 
 // Of each two the greater.
 pub fn greater(a: [u16; 8], b: [u16; 8]) -> [u16; 8]
     ensures { Standing result (λ (i : ℕ). max (turned (get_or a i 0)) (turned (get_or b i 0))) }
 {
-    let mut r: [u16; 8] = [0; 8];
-    let mut i = 0;
-    while i < 8 {
-        r[i] = greater_of(a[i], b[i]);
-        i += 1;
-    }
-    r
+    array::from_fn(|i| greater_of(a[i], b[i]))
 }
 
 // Of each two the lower.
 pub fn lower(a: [u16; 8], b: [u16; 8]) -> [u16; 8]
     ensures { Standing result (λ (i : ℕ). min (turned (get_or a i 0)) (turned (get_or b i 0))) }
 {
-    let mut r: [u16; 8] = [0; 8];
-    let mut i = 0;
-    while i < 8 {
-        r[i] = lower_of(a[i], b[i]);
-        i += 1;
-    }
-    r
+    array::from_fn(|i| lower_of(a[i], b[i]))
 }

@@ -6,8 +6,8 @@ use mathlib.Core.Path.{◌≡◌, ap, ◌∙◌}
 use mathlib.Core.List.{List}
 use lib.ListN.{length}
 use lib.IntN.{ℤ}
+use Rattle.std.proofs.Common.{Ok}
 use Rattle.plate.specs.declared.setting.Setting.{Setting}
-use Rattle.plate.specs.declared.answer.Answer.TheVariants.{Done}
 use Rattle.plate.proofs.Calls.{filter_gaps_below}
 use Rattle.theory.specs.Modes.{Levels}
 use Rattle.theory.specs.SievingTwice.{with_length, filtered_by}
@@ -15,13 +15,13 @@ use Rattle.theory.proofs.SievingTwice.{sieved_twice}
 use Rattle.engine.specs.SievingTwice.{FilterCall}
 
 module _ (s : Setting) (free : s.ends ≡ 0) (W H : ℕ) where
-  done_below : {L : ℕ} {plate old filled : List ℤ} → FilterCall W H (with_length s L) plate Done old filled → s.gaps < L
+  done_below : {L : ℕ} {plate old filled : List ℤ} → FilterCall W H (with_length s L) plate (Ok tt) old filled → s.gaps < L
   done_below {L} {plate} {old} c = filter_gaps_below W H (with_length s L) (length plate) (length old) (length c.work) c.answers
 
   -- by K and then by L, whichever is larger
   pub two_calls :
-      {K L : ℕ} {plate between filled old old' : List ℤ} → Levels plate → FilterCall W H (with_length s K) plate Done old between →
-      FilterCall W H (with_length s L) between Done old' filled → filled ≡ filtered_by s W H (max K L) plate
+      {K L : ℕ} {plate between filled old old' : List ℤ} → Levels plate → FilterCall W H (with_length s K) plate (Ok tt) old between →
+      FilterCall W H (with_length s L) between (Ok tt) old' filled → filled ≡ filtered_by s W H (max K L) plate
   two_calls {K} {L} {plate} levels first second =
       second.fills
       ∙ ap (filtered_by s W H L) first.fills

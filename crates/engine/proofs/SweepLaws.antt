@@ -42,16 +42,16 @@ chosen_best W H s index plate old new e h =
 
 -- ---- a direction that adds nothing
 
-module _ (W H : ℕ) (s : Setting) (plate : List ℤ) (index bit : ℕ) (is-bit : bit ≡ 2 ^ index) where
-  pub member_chosen : s.directions / bit % 2 ≡ 1 → member s.directions (2 ^ index) ≡ true
-  unfolding member
-  member_chosen h = rw (← is-bit) (eq-eqb (s.directions / bit % 2) 1 h)
+pub member_chosen : (s : Setting) (index : ℕ) → s.directions / 2 ^ index % 2 ≡ 1 → member s.directions (2 ^ index) ≡ true
+unfolding member
+member_chosen s index h = eq-eqb (s.directions / 2 ^ index % 2) 1 h
 
-  pub not_chosen : (old : List ℤ) → (s.directions / bit % 2 ≡ 1 → ⊥) → Raised (best_if_chosen W H s plate (2 ^ index)) old old 0 (W * H)
-  unfolding best_if_chosen member
-  not_chosen old out =
-      raised_to_nothing (best_if_chosen W H s plate (2 ^ index)) old 0 (W * H)
-      (λ x a b. rw (← is-bit, ne_eqb (s.directions / bit % 2) 1 out))
+pub not_chosen : (W H : ℕ) (s : Setting) (plate : List ℤ) (index : ℕ) (old : List ℤ) → (s.directions / 2 ^ index % 2 ≡ 1 → ⊥) →
+    Raised (best_if_chosen W H s plate (2 ^ index)) old old 0 (W * H)
+unfolding best_if_chosen member
+not_chosen W H s plate index old out =
+    raised_to_nothing (best_if_chosen W H s plate (2 ^ index)) old 0 (W * H)
+    (λ x a b. rw (ne_eqb (s.directions / 2 ^ index % 2) 1 out))
 
 module _ (W H : ℕ) (s : Setting) (plate : List ℤ) (index : ℕ) (known : index < 4) (short : span W H (2 ^ index) < s.length) where
   no_path : (x : ℕ) → x < W * H → best_in W H s plate (2 ^ index) x ≡ 0
@@ -159,17 +159,6 @@ module _ (W H : ℕ) (s : Setting) (plate : List ℤ) where
         is = λ x h. omega (arith, r.inside x (omega arith) h, full.reached x (omega arith), before_grows index x l, all_is x);
         len = r.len;
       }
-
--- ---- the bit of the direction, doubled from one to the next
-
-pub bit_below : (index : ℕ) → index < 4 → 2 ^ index ≤ 8
-bit_below index h = below_four (λ (i : ℕ). 2 ^ i ≤ 8) (omega arith) (omega arith) (omega arith) (omega arith) index h
-
-double : (index : ℕ) → index < 4 → 2 ^ index + 2 ^ index ≡ 2 ^ (index + 1)
-double index h = below_four (λ (i : ℕ). 2 ^ i + 2 ^ i ≡ 2 ^ (i + 1)) refl refl refl refl index h
-
-pub bit_doubled : (index bit : ℕ) → index < 4 → bit ≡ 2 ^ index → bit + bit ≡ 2 ^ (index + 1)
-bit_doubled index bit h e = omega (arith, double index h)
 
 -- the lent buffers keep their lengths
 pub accepted_still : (W H : ℕ) (s : Setting) (plate result work result₁ work₁ : ℕ) → result₁ ≡ result → work₁ ≡ work → Accepted W H s plate result work →

@@ -8,30 +8,21 @@ ghost use Rattle.engine.specs.Finishing.{Blank, Finished};
 pub(crate) fn blank(res: &mut [i16])
     ensures { Blank res.old res.new }
 {
-    let mut x = 0;
-    while x < res.len() {
-        res[x] = -32768;
-        x += 1;
-    }
+    res.fill(i16::MIN);
 }
 
 // The filtered level of a pixel, from its own and the best of the paths through it: a gap is not raised.
 fn finished(mode: usize, own: i16, best: i16) -> i16
     ensures { result ≡ level_by mode (min (key_by mode own) (key best)) }
 {
-    frames::level_by(
-        mode,
-        states::min2(frames::key_by(mode, own), plate::key_of(best)),
-    )
+    frames::level_by(mode, frames::key_by(mode, own).min(plate::key_of(best)))
 }
 
 pub(crate) fn finish(res: &mut [i16], plate: &[i16], mode: usize)
     requires { length res.old ≡ length plate.now }
     ensures { Finished mode plate.now res.old res.new }
 {
-    let mut x = 0;
-    while x < plate.len() {
-        res[x] = finished(mode, plate[x], res[x]);
-        x += 1;
+    for (x, own) in plate.iter().enumerate() {
+        res[x] = finished(mode, *own, res[x]);
     }
 }

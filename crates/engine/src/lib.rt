@@ -18,8 +18,8 @@ ghost use Rattle.plate.specs.Answers.{answered, result_after, WorkAfter};
 mod finish;
 mod sweep;
 
-use crate::sweep::sweep;
-use plate::{Answer, Fills, Lent, Setting};
+use crate::sweep::Sieve;
+use plate::{Fills, Lent, Refusal, Setting};
 
 // Fills result with the filtered plate, or refuses (1 to 8, 18) before the first store: then both lent
 // buffers are as they were. The work buffer has at least 4 * (gaps + 1) * width * height numbers, and
@@ -31,7 +31,7 @@ pub fn filter(
     setting: Setting,
     res: &mut [i16],
     work: &mut [u16],
-) -> Answer
+) -> Result<(), Refusal>
     ensures result_value { answered result ≡ filter_verdict width height setting (length plate.now) (length res.old) (length work.old) }
     ensures res_after { res.new ≡ result_after result (filtered setting width height plate.now) res.old }
     ensures work_after { WorkAfter result work.old work.new }
@@ -42,13 +42,13 @@ pub fn filter(
         filled: res.len(),
         work: work.len(),
     };
-    let answer = plate::judge(width, height, setting, lent);
-    if let Answer::Refused { number, place } = answer {
-        return Answer::Refused {
-            number: number,
-            place: place,
-        };
-    }
-    sweep(width, height, plate, setting, res, work);
-    Answer::Done
+    plate::judge(width, height, setting, lent)?;
+    let sieve = Sieve {
+        width,
+        height,
+        plate,
+        setting,
+    };
+    sieve.sweep(res, work);
+    Ok(())
 }

@@ -7,79 +7,70 @@ ghost use Rattle.engine.specs.Finishing.{Accepted, Complete, Gathered, best_if_c
 use crate::finish::{blank, finish};
 use plate::Setting;
 
-// The direction at this index, if it is chosen. Where its paths are too short nothing is raised: there is no
-// path.
-fn open_if_chosen(
-    res: &mut [i16],
-    work: &mut [u16],
-    plate: &[i16],
-    width: usize,
-    height: usize,
-    setting: Setting,
-    index: usize,
-    bit: usize,
-)
-    requires accepted { Accepted width height setting (length plate.now) (length res.old) (length work.old) }
-    requires index_bound { (index < 4) × (bit ≡ 2 ^ index) }
-    ensures { Raised (best_if_chosen width height setting plate.now (2 ^ index)) res.old res.new 0 (width * height) }
-{
-    if setting.directions / bit % 2 != 1 {
-        return;
-    }
-    directions::open_direction(res, work, plate, width, height, setting, index);
-}
-
 // Whether every level has reached the pixel's own: then no other direction can add to it.
 fn is_complete(res: &[i16], plate: &[i16], mode: usize) -> bool
     requires { length res.now ≡ length plate.now }
     ensures { result ≡ true → Complete mode plate.now res.now }
 {
-    let mut x = 0;
-    while x < plate.len() {
-        if plate::key_of(res[x]) < frames::key_by(mode, plate[x]) {
+    for (found, own) in res.iter().zip(plate) {
+        if plate::key_of(*found) < frames::key_by(mode, *own) {
             return false;
         }
-        x += 1;
     }
     true
 }
 
-fn open_chosen(
-    res: &mut [i16],
-    work: &mut [u16],
-    plate: &[i16],
-    width: usize,
-    height: usize,
-    setting: Setting,
-)
-    requires { Accepted width height setting (length plate.now) (length res.old) (length work.old) }
-    ensures { Gathered setting.mode plate.now (best_of_all width height setting plate.now) res.old res.new (width * height) }
-{
-    let mut index = 0;
-    let mut bit = 1;
-    while index < plate::DIRECTIONS {
-        if is_complete(res, plate, setting.mode) {
-            return;
-        }
-        open_if_chosen(res, work, plate, width, height, setting, index, bit);
-        index += 1;
-        bit += bit;
-    }
+// A plate that is filtered: its size, its levels and the setting. That a call has passed its checks (`Accepted`)
+// stays with each method, by hand: it speaks of the lent buffers too, which are not held here.
+#[derive(Clone, Copy)]
+pub(crate) struct Sieve<'a> {
+    pub width: usize,
+    pub height: usize,
+    pub plate: &'a [i16],
+    pub setting: Setting,
 }
 
-// The filtered plate, once every check has passed.
-pub(crate) fn sweep(
-    width: usize,
-    height: usize,
-    plate: &[i16],
-    setting: Setting,
-    res: &mut [i16],
-    work: &mut [u16],
-)
-    requires { Accepted width height setting (length plate.now) (length res.old) (length work.old) }
-    ensures { res.new ≡ filtered setting width height plate.now }
-{
-    blank(res);
-    open_chosen(res, work, plate, width, height, setting);
-    finish(res, plate, setting.mode);
+impl<'a> Sieve<'a> {
+    // The direction at this index, if it is chosen. Where its paths are too short nothing is raised: there is
+    // no path.
+    fn open_if_chosen(&self, res: &mut [i16], work: &mut [u16], index: usize)
+        requires accepted { Accepted self.now.width self.now.height self.now.setting (length self.now.plate.now) (length res.old) (length work.old) }
+        requires index_bound { index < 4 }
+        ensures { Raised (best_if_chosen self.now.width self.now.height self.now.setting self.now.plate.now (2 ^ index)) res.old res.new 0 (self.now.width * self.now.height) }
+    {
+        if (self.setting.directions >> index) % 2 != 1 {
+            return;
+        }
+        directions::open_direction(
+            res,
+            work,
+            self.plate,
+            self.width,
+            self.height,
+            self.setting,
+            index,
+        );
+    }
+
+    fn open_chosen(&self, res: &mut [i16], work: &mut [u16])
+        requires { Accepted self.now.width self.now.height self.now.setting (length self.now.plate.now) (length res.old) (length work.old) }
+        ensures { Gathered self.now.setting.mode self.now.plate.now (best_of_all self.now.width self.now.height self.now.setting self.now.plate.now) res.old res.new (self.now.width * self.now.height) }
+    {
+        for index in 0..plate::DIRECTIONS {
+            if is_complete(res, self.plate, self.setting.mode) {
+                return;
+            }
+            self.open_if_chosen(res, work, index);
+        }
+    }
+
+    // The filtered plate, once every check has passed.
+    pub(crate) fn sweep(&self, res: &mut [i16], work: &mut [u16])
+        requires { Accepted self.now.width self.now.height self.now.setting (length self.now.plate.now) (length res.old) (length work.old) }
+        ensures { res.new ≡ filtered self.now.setting self.now.width self.now.height self.now.plate.now }
+    {
+        blank(res);
+        self.open_chosen(res, work);
+        finish(res, self.plate, self.setting.mode);
+    }
 }

@@ -1,10 +1,10 @@
 -- Document 02, N3: a trace entered in a book. Its checks are the trace's own, then 15 and 16; the entry has the trace's level and direction.
-use Rattle.std.specs.Prelude.{ℕ, List, ◌++◌, length, ℤ}
+use Rattle.std.specs.Prelude.{ℕ, List, ◌++◌, length, ℤ, Result, Ok, Err}
 use Rattle.plate.specs.Opening.{level_at, filtered}
 use Rattle.plate.specs.Refusals.{Verdict, Check, judged, trace_checks}
 use Rattle.plate.specs.declared.setting.Setting.{Setting}
-use Rattle.plate.specs.declared.answer.Traced.{Traced}
-use Rattle.plate.specs.declared.answer.Traced.TheVariants.{Path, Refused as Untraced}
+use Rattle.plate.specs.declared.answer.Trace.{Trace}
+use Rattle.plate.specs.declared.refusal.Refusal.{Refusal}
 use Rattle.book.specs.Refusals.{entry_checks, entered}
 use Rattle.book.specs.declared.entry.Key.{Key}
 use Rattle.book.specs.declared.Book.{Book}
@@ -25,6 +25,6 @@ enter_trace_verdict W H s f pixel b room work =
     judged (enter_trace_checks W H s (length f) pixel b room work) (level_at (filtered s W H f) pixel.place)
 
 -- the book that comes back: the trace's level and direction entered, or "as it came"
-abbrev pub book_after : Traced → Book → Key → Book
-book_after (Path direction level) b key = entered b key level direction
-book_after (Untraced number place) b key = b
+abbrev pub book_after : Result Trace Refusal → Book → Key → Book
+book_after (Ok trace) b key = entered b key trace.level trace.direction
+book_after (Err r) b key = b

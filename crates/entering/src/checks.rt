@@ -6,7 +6,7 @@ ghost use Rattle.entering.specs.Refusals.{enter_trace_checks};
 
 use crate::pixel::{Pixel, key_of};
 use book::Book;
-use plate::{Answer, Setting};
+use plate::{Refusal, Setting};
 
 // Refuses (1 to 8, 18, 11, 12, 15, 16), or is done, with a plate, a path and a work buffer of these lengths.
 pub(crate) fn judge_entering(
@@ -18,15 +18,9 @@ pub(crate) fn judge_entering(
     input: usize,
     filled: usize,
     work: usize,
-) -> Answer
+) -> Result<(), Refusal>
     ensures { answered result ≡ judged (enter_trace_checks width height setting input pixel book filled work) tt }
 {
-    let answer = tracing::judge_trace(width, height, setting, pixel.place, input, filled, work);
-    if let Answer::Refused { number, place } = answer {
-        return Answer::Refused {
-            number: number,
-            place: place,
-        };
-    }
+    tracing::judge_trace(width, height, setting, pixel.place, input, filled, work)?;
     book.judge(key_of(setting, pixel))
 }

@@ -18,30 +18,23 @@ use crate::checks::judge_entering;
 use crate::pixel::key_of;
 use book::{Book, Key};
 pub use pixel::Pixel;
-use plate::{Answer, Setting, Traced};
+use plate::{Refusal, Setting, Trace};
 
-// What comes back: the trace's answer, or a refusal (15 and 16 too), and the book.
+// What comes back: the trace or a refusal (15 and 16 too), and the book.
 #[derive(Clone, Copy)]
 pub struct Entered {
-    pub traced: Traced,
+    pub traced: Result<Trace, Refusal>,
     pub book: Book,
 }
 
 // The book with what a trace has found entered.
-fn book_after(book: Book, key: Key, traced: Traced) -> Book
+fn book_after(book: Book, key: Key, traced: Result<Trace, Refusal>) -> Book
     requires { Clear (entry_checks book key) }
     ensures { result ≡ book_after traced book key }
 {
     match traced {
-        Traced::Path { direction, level } => {
-            let kept = book.enter(key, level, direction);
-            let after = kept.book;
-            after
-        }
-        Traced::Refused {
-            number: _,
-            place: _,
-        } => book,
+        Ok(trace) => book.enter(key, trace.level, trace.direction).book,
+        Err(_) => book,
     }
 }
 
@@ -62,7 +55,7 @@ pub fn enter_trace(
     ensures trace_after { TraceAfter result.traced (Shows setting width height plate.now pixel.place) path.old path.new work.old work.new }
     ensures book_value { result.book ≡ book_after result.traced book (key_of setting pixel) }
 {
-    let answer = judge_entering(
+    let judged = judge_entering(
         width,
         height,
         setting,
@@ -72,20 +65,16 @@ pub fn enter_trace(
         path.len(),
         work.len(),
     );
-    if let Answer::Refused { number, place } = answer {
-        let refused = Traced::Refused {
-            number: number,
-            place: place,
-        };
+    if let Err(refusal) = judged {
         return Entered {
-            traced: refused,
-            book: book,
+            traced: Err(refusal),
+            book,
         };
     }
     let traced = tracing::trace(width, height, plate, setting, pixel.place, path, work);
     let after = book_after(book, key_of(setting, pixel), traced);
     Entered {
-        traced: traced,
+        traced,
         book: after,
     }
 }

@@ -13,6 +13,7 @@ pub struct Pixel {
     pub place: usize,
 }
 
+// By hand: it takes two values, and `From` of a pair would be no plainer.
 pub(crate) fn key_of(setting: Setting, pixel: Pixel) -> Key
     ensures { result ≡ key_of setting pixel }
 {

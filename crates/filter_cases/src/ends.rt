@@ -1,59 +1,48 @@
 // A crack ends on crack (document 02, N5): the worked rows, filtered to the east with gaps allowed at the
 // ends of a path, and without.
-use crate::printing::print_plate;
-use crate::settings::{CLOSING, EAST, OPENING, crack_ended, setting};
+use crate::printing::{filtered, print_plate};
+use crate::settings::{CLOSING, EAST, ON_CRACK, OPENING, setting};
 use plate::Setting;
 use std::io;
 
-fn filter_row(
+// One case after the other, each with what the last one left in the result.
+fn filter_row<const N: usize>(
     rt: &impl Print,
-    name: &str,
-    row: &[i16],
-    s: Setting,
-    res: &mut [i16],
+    row: &[i16; N],
+    cases: &[(&str, Setting)],
 ) -> io::Result<()> {
-    let mut work = [4321u16; 40];
-    let answer = engine::filter(row.len(), 1, row, s, res, &mut work);
-    print_plate(rt, name, answer, res)
-}
-
-fn gap_first(rt: &impl Print) -> io::Result<()> {
-    let mut result = [0i16; 4];
-    let row = [5i16, 9, 12, 8];
-    let opening = setting(OPENING, EAST, 4, 1);
-    filter_row(rt, "gap first", &row, opening, &mut result)?;
-    let ended = crack_ended(opening);
-    filter_row(rt, "gap first, ends 1", &row, ended, &mut result)
-}
-
-fn dark_gap_first(rt: &impl Print) -> io::Result<()> {
-    let mut result = [0i16; 4];
-    let row = [12i16, 5, 9, 8];
-    let closing = setting(CLOSING, EAST, 4, 1);
-    filter_row(rt, "gap first, closing", &row, closing, &mut result)?;
-    let ended = crack_ended(closing);
-    filter_row(rt, "gap first, closing, ends 1", &row, ended, &mut result)
-}
-
-fn gap_between(rt: &impl Print) -> io::Result<()> {
-    let mut result = [0i16; 4];
-    let q = [9i16, 5, 12, 8];
-    let ended = crack_ended(setting(OPENING, EAST, 4, 1));
-    filter_row(rt, "Q, ends 1", &q, ended, &mut result)
-}
-
-fn two_gaps(rt: &impl Print) -> io::Result<()> {
-    let mut result = [0i16; 5];
-    let row = [9i16, 1, 9, 9, 1];
-    let three = crack_ended(setting(OPENING, EAST, 3, 1));
-    filter_row(rt, "two gaps by 3, ends 1", &row, three, &mut result)?;
-    let pairs = crack_ended(setting(OPENING, EAST, 2, 1));
-    filter_row(rt, "two gaps by 2, ends 1", &row, pairs, &mut result)
+    let mut res = [0; N];
+    for (name, setting) in cases {
+        let answer = filtered(N, 1, row, *setting, &mut res, &mut [4321; 40]);
+        print_plate(rt, name, answer)?;
+    }
+    Ok(())
 }
 
 pub(crate) fn end_rows(rt: &impl Print) -> io::Result<()> {
-    gap_first(rt)?;
-    dark_gap_first(rt)?;
-    gap_between(rt)?;
-    two_gaps(rt)
+    let opening = setting(OPENING, EAST, 4, 1);
+    let closing = setting(CLOSING, EAST, 4, 1);
+    let ended = Setting {
+        ends: ON_CRACK,
+        ..opening
+    };
+    let closing_ended = Setting {
+        ends: ON_CRACK,
+        ..closing
+    };
+    let light = [("gap first", opening), ("gap first, ends 1", ended)];
+    filter_row(rt, &[5, 9, 12, 8], &light)?;
+    let dark = [
+        ("gap first, closing", closing),
+        ("gap first, closing, ends 1", closing_ended),
+    ];
+    filter_row(rt, &[12, 5, 9, 8], &dark)?;
+    filter_row(rt, &[9, 5, 12, 8], &[("Q, ends 1", ended)])?;
+    let three = Setting { length: 3, ..ended };
+    let pairs = Setting { length: 2, ..ended };
+    let two_gaps = [
+        ("two gaps by 3, ends 1", three),
+        ("two gaps by 2, ends 1", pairs),
+    ];
+    filter_row(rt, &[9, 1, 9, 9, 1], &two_gaps)
 }

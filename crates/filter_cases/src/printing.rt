@@ -1,66 +1,56 @@
-// Prints a filtered plate, or two, or the refusal.
-use plate::Answer;
+// Filters a plate, and prints what that came to.
+use plate::{Refusal, Setting};
 use std::io;
 
-// A level in decimal, with its sign.
-fn print_level(rt: &impl Print, v: i16) -> io::Result<()> {
-    print!(rt; "{v}")
+// The filtered levels. What the two buffers hold before a call is free, and the work buffer may be longer than
+// is asked for.
+pub(crate) fn filtered<const N: usize>(
+    width: usize,
+    height: usize,
+    plate: &[i16; N],
+    setting: Setting,
+    res: &mut [i16; N],
+    work: &mut [u16],
+) -> Result<[i16; N], Refusal> {
+    engine::filter(width, height, plate, setting, res, work)?;
+    Ok(*res)
 }
 
-// "NAME: level,level,.." or "NAME: refused NUMBER", and a newline.
-pub(crate) fn print_plate(
+// Prints "NAME: level,level,.." or "NAME: refused NUMBER", and a newline.
+pub(crate) fn print_plate<const N: usize>(
     rt: &impl Print,
     name: &str,
-    answer: Answer,
-    levels: &[i16],
+    answer: Result<[i16; N], Refusal>,
 ) -> io::Result<()> {
     print!(rt; "{name}")?;
-    print_answer(rt, answer, levels)
+    print_answer(rt, answer)
 }
 
 // The same after the name.
-pub(crate) fn print_answer(rt: &impl Print, answer: Answer, levels: &[i16]) -> io::Result<()> {
+pub(crate) fn print_answer<const N: usize>(
+    rt: &impl Print,
+    answer: Result<[i16; N], Refusal>,
+) -> io::Result<()> {
     print!(rt; ": ")?;
     match answer {
-        Answer::Done => print_levels(rt, levels)?,
-        Answer::Refused { number, place: _ } => print_refused(rt, number)?,
+        Ok(levels) => print_levels(rt, &levels)?,
+        Err(refusal) => print_refused(rt, refusal)?,
     }
     println!(rt)
 }
 
-// "NAME: level,level,.. to level,level,.." or "NAME: refused NUMBER at PLACE", and a newline.
-pub(crate) fn print_bounds(
-    rt: &impl Print,
-    name: &str,
-    answer: Answer,
-    lowest: &[i16],
-    highest: &[i16],
-) -> io::Result<()> {
-    print!(rt; "{name}: ")?;
-    match answer {
-        Answer::Done => {
-            print_levels(rt, lowest)?;
-            print!(rt; " to ")?;
-            print_levels(rt, highest)?;
-        }
-        Answer::Refused { number, place } => {
-            print_refused(rt, number)?;
-            print!(rt; " at {place}")?;
-        }
-    }
-    println!(rt)
-}
-
-fn print_refused(rt: &impl Print, number: usize) -> io::Result<()> {
+pub(crate) fn print_refused(rt: &impl Print, refusal: Refusal) -> io::Result<()> {
+    let number = refusal.number();
     print!(rt; "refused {number}")
 }
 
-fn print_levels(rt: &impl Print, levels: &[i16]) -> io::Result<()> {
-    for i in 0..levels.len() {
+// Parted by commas.
+pub(crate) fn print_levels(rt: &impl Print, levels: &[i16]) -> io::Result<()> {
+    for (i, level) in levels.iter().enumerate() {
         if 0 < i {
             print!(rt; ",")?;
         }
-        print_level(rt, levels[i])?;
+        print!(rt; "{level}")?;
     }
     Ok(())
 }

@@ -14,7 +14,10 @@ pub(crate) const NORTH_EAST: usize = 4;
 pub(crate) const SOUTH_EAST: usize = 8;
 // where the paper names no way
 pub(crate) const ALL_FOUR: usize = 15;
+// where a path must end on crack (document 02, N5)
+pub(crate) const ON_CRACK: usize = 1;
 
+// Where the ends of a path may be gaps.
 pub(crate) fn setting(mode: usize, directions: usize, length: usize, gaps: usize) -> Setting {
     Setting {
         length,
@@ -22,21 +25,5 @@ pub(crate) fn setting(mode: usize, directions: usize, length: usize, gaps: usize
         directions,
         mode,
         ends: 0,
-    }
-}
-
-// The same where a path must end on crack (document 02, N5).
-pub(crate) fn crack_ended(s: Setting) -> Setting {
-    with_ends(s, 1)
-}
-
-// The same with other ends, right or wrong.
-pub(crate) fn with_ends(s: Setting, ends: usize) -> Setting {
-    Setting {
-        length: s.length,
-        gaps: s.gaps,
-        directions: s.directions,
-        mode: s.mode,
-        ends,
     }
 }

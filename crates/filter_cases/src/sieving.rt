@@ -6,19 +6,17 @@ ghost use Rattle.plate.specs.Answers.{result_after};
 ghost use Rattle.theory.specs.Modes.{Levels};
 ghost use Rattle.theory.specs.SievingTwice.{filtered_by};
 
-use crate::printing::print_answer;
+use crate::printing::{filtered, print_answer};
 use crate::settings::{CLOSING, EAST, OPENING, setting};
-use plate::{Answer, Setting};
+use plate::{Refusal, Setting};
 use std::io;
 
 // Reads every level, since a proof learns that a level has 16 bits, as its type says, only where it is read.
 fn read_through(plate: &[i16])
     ensures { Levels plate.now }
 {
-    let mut i = 0;
-    while i < plate.len() {
-        let level = plate[i];
-        i += 1;
+    for level in plate {
+        let _level = *level;
     }
 }
 
@@ -34,114 +32,53 @@ fn sieve_twice(
     between: &mut [i16],
     res: &mut [i16],
     work: &mut [u16],
-) -> Answer
+) -> Result<(), Refusal>
     ensures { setting.ends ≡ 0 → res.new ≡ result_after result (filtered_by setting width height (max setting.length other) plate.now) res.old }
 {
     read_through(plate);
-    let answer = engine::filter(width, height, plate, setting, between, work);
-    if let Answer::Refused { number, place } = answer {
-        return Answer::Refused {
-            number: number,
-            place: place,
-        };
-    }
+    engine::filter(width, height, plate, setting, between, work)?;
     let by_other = Setting {
         length: other,
-        gaps: setting.gaps,
-        directions: setting.directions,
-        mode: setting.mode,
-        ends: setting.ends,
+        ..setting
     };
     engine::filter(width, height, between, by_other, res, work)
 }
 
-// "NAME by LENGTH".
-fn print_by(rt: &impl Print, name: &str, length: usize) -> io::Result<()> {
-    print!(rt; "{name} by {length}")
-}
-
-fn sieve_once(
+// By either length alone, and by both in either order, each with what the last one left in the buffers.
+fn sieve_row<const N: usize>(
     rt: &impl Print,
     name: &str,
-    row: &[i16],
+    row: &[i16; N],
     setting: Setting,
-    res: &mut [i16],
-) -> io::Result<()> {
-    let mut work = [4321u16; 40];
-    let answer = engine::filter(row.len(), 1, row, setting, res, &mut work);
-    print_by(rt, name, setting.length)?;
-    print_answer(rt, answer, res)
-}
-
-fn sieve_in_order(
-    rt: &impl Print,
-    name: &str,
-    row: &[i16],
-    setting: Setting,
-    other: usize,
-    between: &mut [i16],
-    res: &mut [i16],
-) -> io::Result<()> {
-    let mut work = [4321u16; 40];
-    let answer = sieve_twice(row.len(), 1, row, setting, other, between, res, &mut work);
-    print_by(rt, name, setting.length)?;
-    print_by(rt, ", then", other)?;
-    print_answer(rt, answer, res)
-}
-
-// By either length alone, and by both in either order.
-fn sieve_row(
-    rt: &impl Print,
-    name: &str,
-    row: &[i16],
-    short: Setting,
-    long: Setting,
-    between: &mut [i16],
-    res: &mut [i16],
-) -> io::Result<()> {
-    sieve_once(rt, name, row, short, res)?;
-    sieve_once(rt, name, row, long, res)?;
-    sieve_in_order(rt, name, row, short, long.length, between, res)?;
-    sieve_in_order(rt, name, row, long, short.length, between, res)
-}
-
-fn sieve_four(
-    rt: &impl Print,
-    name: &str,
-    mode: usize,
     short: usize,
     long: usize,
 ) -> io::Result<()> {
-    let q = [9i16, 5, 12, 8];
-    let mut between = [0i16; 4];
-    let mut result = [0i16; 4];
-    sieve_row(
-        rt,
-        name,
-        &q,
-        setting(mode, EAST, short, 1),
-        setting(mode, EAST, long, 1),
-        &mut between,
-        &mut result,
-    )
+    let mut between = [0; N];
+    let mut res = [0; N];
+    for length in [short, long] {
+        let setting = Setting { length, ..setting };
+        print!(rt; "{name} by {length}")?;
+        print_answer(rt, filtered(N, 1, row, setting, &mut res, &mut [4321; 40]))?;
+    }
+    for (length, other) in [(short, long), (long, short)] {
+        let setting = Setting { length, ..setting };
+        let mut work = [4321; 40];
+        let answer = sieve_twice(N, 1, row, setting, other, &mut between, &mut res, &mut work);
+        print!(rt; "{name} by {length}, then by {other}")?;
+        print_answer(rt, answer.map(|()| res))?;
+    }
+    Ok(())
 }
 
 pub(crate) fn sieve_rows(rt: &impl Print) -> io::Result<()> {
-    sieve_four(rt, "Q", OPENING, 2, 4)?;
-    sieve_four(rt, "Q closing", CLOSING, 2, 4)?;
+    let q = [9, 5, 12, 8];
+    let opening = setting(OPENING, EAST, 4, 1);
+    let closing = setting(CLOSING, EAST, 4, 1);
+    sieve_row(rt, "Q", &q, opening, 2, 4)?;
+    sieve_row(rt, "Q closing", &q, closing, 2, 4)?;
     // there is no path of five pixels
-    sieve_four(rt, "Q", OPENING, 3, 5)?;
-    sieve_four(rt, "Q closing", CLOSING, 3, 5)?;
-    let z = [3i16, 9, 9, 2, 9, 9, 9, 1];
-    let mut between = [0i16; 8];
-    let mut result = [0i16; 8];
-    sieve_row(
-        rt,
-        "Z",
-        &z,
-        setting(OPENING, EAST, 2, 0),
-        setting(OPENING, EAST, 3, 0),
-        &mut between,
-        &mut result,
-    )
+    sieve_row(rt, "Q", &q, opening, 3, 5)?;
+    sieve_row(rt, "Q closing", &q, closing, 3, 5)?;
+    let z = [3, 9, 9, 2, 9, 9, 9, 1];
+    sieve_row(rt, "Z", &z, setting(OPENING, EAST, 3, 0), 2, 3)
 }

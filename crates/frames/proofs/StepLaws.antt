@@ -1,5 +1,5 @@
 -- Laws of a step's change plus one: what the tests on a signed entry of the table tell of it.
-use Prim.Native.Nat.{ℕ, zero, suc, ◌-◌}
+use Prim.Native.Nat.{ℕ, zero, suc, ◌-◌, ◌≤◌}
 use mathlib.Core.Path.{◌≡◌, refl, sym, ap, ◌∙◌}
 use mathlib.Core.Bool.{Bool, true, false}
 use native.Mathlib.Omega.{arith}
@@ -28,6 +28,13 @@ else_plus (pos (suc zero)) p q = absurd (q refl)
 else_plus (pos (suc (suc n))) p q = refl
 else_plus (negsuc n) p q = refl
 
+pub few_plus : (d : ℤ) → plus_one d ≤ 2
+unfolding plus_one
+few_plus (pos zero) = omega arith
+few_plus (pos (suc zero)) = omega arith
+few_plus (pos (suc (suc n))) = omega arith
+few_plus (negsuc n) = omega arith
+
 -- an entry of the table, as the code reads it
 pub biased_read : (back : Bool) (z d : ℤ) (n : ℕ) → SFits w8 z → n ≡ biased back (to_z w8 (of_z w8 z)) → z ≡ d → n ≡ biased back d
 biased_read back z d n f e r = e ∙ ap (biased back) (to_z-of_z {w = w8} {z = z} f ∙ r)
@@ -39,8 +46,3 @@ biased_back back d e = rw e
 pub biased_on : (back : Bool) (d : ℤ) → back ≡ false → biased back d ≡ plus_one d
 unfolding biased
 biased_on back d e = rw e
-
-pub biased_none : (back : Bool) (d : ℤ) → plus_one d ≡ 1 → biased back d ≡ 1
-unfolding biased
-biased_none true d e = omega arith
-biased_none false d e = e

@@ -7,19 +7,12 @@ ghost use Rattle.frames.specs.Steps.{biased, columns_on, rows_on};
 fn bias(d: i8, backwards: bool) -> usize
     ensures { (result ≡ biased backwards d) × (result ≤ 2) }
 {
-    if d == 0 {
-        return 1;
-    }
-    if d == 1 {
-        if backwards {
-            return 0;
-        }
-        return 2;
-    }
-    if backwards {
-        return 2;
-    }
-    0
+    let change = match d {
+        0 => 1,
+        1 => 2,
+        _ => 0,
+    };
+    if backwards { 2 - change } else { change }
 }
 
 // By how many columns the numbered step of the direction at this index goes, or backwards; plus one.

@@ -1,5 +1,5 @@
 -- The usable directions by their index in the table, and that a path crosses a pixel exactly if there is one: refusal 12 by numbers alone.
-use Prim.Native.Nat.{ℕ, ◌+◌, ◌*◌, ◌/◌, ◌%◌, ◌^◌, ◌≤◌, ◌<◌, min}
+use Prim.Native.Nat.{ℕ, ◌*◌, ◌/◌, ◌%◌, ◌^◌, ◌≤◌, ◌<◌, min}
 use mathlib.Core.Path.{◌≡◌, refl, sym, ap, subst, ◌∙◌}
 use mathlib.Core.Bool.{Bool, true, false, true≢false, cond, ◌&&◌, ◌||◌}
 use mathlib.Core.List.{Memᴰ}
@@ -7,8 +7,9 @@ use mathlib.Core.Logic.{⊎_elim}
 use native.Mathlib.Omega.{arith}
 use lib.Dec.{T, leb, ltb, leb→le}
 use lib.ListN.{length}
-use borrow.Author.Tests.{eq-eqb, ne_eqb, lt-ltb, le-ltb, le-leb}
-use Rattle.basics.proofs.Numbers.{le_or_lt}
+use Rattle.std.specs.Prelude.{Option, Some, None, MatchOption}
+use borrow.Author.Tests.{eq-eqb, ne_eqb, lt-ltb, le-ltb, le-leb, ltb-true}
+use Rattle.basics.proofs.Numbers.{below_four}
 use Rattle.basics.proofs.Tests.{true_T, T_true, and_both, true_or_false}
 use Rattle.basics.proofs.Lists.{keep_find, keep-keep, one_of_three}
 use Rattle.plate.specs.Directions.{table, member, chosen}
@@ -23,9 +24,10 @@ use Rattle.headings.specs.Usable.{bit_at, usable, FirstUsable}
 
 -- ---- the bit of a direction
 
-pub bit_at_lem : (index n : ℕ) → min index 3 ≡ n → 2 ^ n ≡ bit_at index
+-- a one that is moved up by the index, or by that of the last direction, loses no bit
+pub bit_shifted : (index n : ℕ) → n ≡ min index 3 → ((1 * 2 ^ n) % 2 ^ 64 ≡ bit_at index) × (1 ≤ (1 * 2 ^ n) % 2 ^ 64)
 unfolding bit_at
-bit_at_lem index n e = ap (λ (i : ℕ). 2 ^ i) (sym e)
+bit_shifted index n e = subst (λ (m : ℕ). ((1 * 2 ^ n) % 2 ^ 64 ≡ 2 ^ m) × (1 ≤ (1 * 2 ^ n) % 2 ^ 64)) e (below_four (λ (i : ℕ). ((1 * 2 ^ i) % 2 ^ 64 ≡ 2 ^ i) × (1 ≤ (1 * 2 ^ i) % 2 ^ 64)) (refl, omega arith) (refl, omega arith) (refl, omega arith) (refl, omega arith) n (omega arith))
 
 pub bit_there : (index : ℕ) → index < 4 → bit_at index ≡ 2 ^ index
 unfolding bit_at
@@ -94,45 +96,41 @@ chosen_usable W H s index size known c l =
     )
     refl
 
+-- a usable direction is one of the table
+pub usable_listed : (W H : ℕ) (s : Setting) (index : ℕ) → usable W H s index ≡ true → index < 4
+unfolding usable
+usable_listed W H s index u =
+    let a = and_both (ltb index 4 && member s.directions (2 ^ index)) (leb s.length (span_of W H index)) (true_T (usable W H s index) u) in
+    ltb-true index 4 (T_true (ltb index 4) (and_both (ltb index 4) (member s.directions (2 ^ index)) a.0).0)
+
+-- what a search over the table has found
+pub first_told : (W H : ℕ) (s : Setting) (r : Option ℕ) →
+    MatchOption r ((k : ℕ) → 0 ≤ k → k < 4 → usable W H s k ≡ false) (λ i. (0 ≤ i) × (i < 4) × (usable W H s i ≡ true) × ((k : ℕ) → 0 ≤ k → k < i → usable W H s k ≡ false)) →
+    FirstUsable W H s r
+first_told W H s (Some i) f = record { passes = f.2; none = λ k l u. true≢false (sym u ∙ f.3 k (omega arith) l) }
+first_told W H s None f = λ k u. true≢false (sym u ∙ f k (omega arith) (usable_listed W H s k u))
+
 -- ---- refusal 12
 
-module _ (W H : ℕ) (s : Setting) (x : ℕ) (size : GoodSize W H) (on : x < W * H) (long : 1 ≤ s.length) (r : ℕ) (first : FirstUsable W H s r) where
-  pub usable_crosses : r < 4 → crossed W H s.directions s.length x ≡ true
-  usable_crosses l =
-      let u = first.passes l in
+module _ (W H : ℕ) (s : Setting) (x : ℕ) (size : GoodSize W H) (on : x < W * H) (long : 1 ≤ s.length) where
+  pub usable_crosses : (r : ℕ) → FirstUsable W H s (Some r) → crossed W H s.directions s.length x ≡ true
+  usable_crosses r first =
+      let u = first.passes in
+      let l = usable_listed W H s r u in
       T_true (crossed W H s.directions s.length x)
       (spans_crossed W H s.directions s.length x on long
       (record { bit = 2 ^ r; in_set = usable_chosen W H s r l u; long = usable_long W H s r l u }))
 
   -- the direction of a path that crosses x would be usable
-  none_crossing : 4 ≤ r → T (crossed W H s.directions s.length x) → ⊥
-  none_crossing l c =
+  none_crossing : FirstUsable W H s None → T (crossed W H s.directions s.length x) → ⊥
+  none_crossing none c =
       let p = crossed_spans W H s.directions s.length x c in
       let i = index_at p.bit (chosen_bits s.directions p.bit p.in_set) in
-      first.none i.0 (omega (arith, i.1))
+      none i.0
       (chosen_usable W H s i.0 size i.1 (subst (λ (b : ℕ). Memᴰ b (chosen s.directions)) i.2 p.in_set)
       (subst (λ (b : ℕ). s.length ≤ span W H b) i.2 p.long))
 
-  pub none_crosses : 4 ≤ r → crossed W H s.directions s.length x ≡ false
-  none_crosses l =
-      ⊎_elim (λ e. absurd (none_crossing l (true_T (crossed W H s.directions s.length x) e))) (λ e. e)
+  pub none_crosses : FirstUsable W H s None → crossed W H s.directions s.length x ≡ false
+  none_crosses none =
+      ⊎_elim (λ e. absurd (none_crossing none (true_T (crossed W H s.directions s.length x) e))) (λ e. e)
       (true_or_false (crossed W H s.directions s.length x))
-
--- ---- the search for the first
-
--- no direction before this index is usable
-pub record NoneBefore (W H : ℕ) (s : Setting) (index : ℕ) : Type 0 where
-  pub none : (i : ℕ) → i < index → usable W H s i ≡ true → ⊥
-
-pub none_before : (W H : ℕ) (s : Setting) → NoneBefore W H s 0
-none_before W H s = record { none = λ i l u. omega arith }
-
-pub none_more : (W H : ℕ) (s : Setting) (index : ℕ) → NoneBefore W H s index → usable W H s index ≡ false → NoneBefore W H s (index + 1)
-none_more W H s index d f =
-    record {
-      none = λ i l u.
-          ⊎_elim
-          (λ a. let e : i ≡ index = omega arith in let v : usable W H s index ≡ true = rw e at u in absurd (let z : ◌≡◌ {A = Bool} true false = sym v ∙ f in true≢false z))
-          (λ a. d.none i a u)
-          (le_or_lt index i);
-    }

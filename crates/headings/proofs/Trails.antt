@@ -1,7 +1,7 @@
 -- The indices of a trail that is written into the buffer pixel by pixel: one pixel more keeps it a trail.
 use Prim.Native.Nat.{ℕ, ◌+◌, ◌-◌, ◌≤◌, ◌<◌}
 use mathlib.Core.Path.{◌≡◌, refl, sym, ◌∙◌}
-use mathlib.Core.Bool.{Bool, true, false, true≢false}
+use mathlib.Core.Bool.{Bool, true, false}
 use mathlib.Core.List.{List, Memᴰ}
 use mathlib.Core.Logic.{⊎_elim}
 use native.Mathlib.Omega.{arith}
@@ -26,11 +26,7 @@ pub within_less : (b : Bool) (size start s n : ℕ) → Within b size start s �
 within_less true size start s n w l = (omega arith, w.1)
 within_less false size start s n w l = omega arith
 
--- a trail back has as many indices before it as it has steps, and no trail has more steps than the buffer has indices
-pub within_back : (b : Bool) (size start s : ℕ) → Within b size start s → b ≡ true → s ≤ start
-within_back true size start s w e = w.0
-within_back false size start s w e = absurd (true≢false (sym e))
-
+-- no trail has more steps than the buffer has indices
 pub within_few : (b : Bool) (size start s : ℕ) → Within b size start s → s < size
 within_few true size start s w = omega arith
 within_few false size start s w = omega arith
@@ -47,9 +43,6 @@ behind_other false size start s q w l h e = omega arith
 -- ---- one pixel more
 
 module _ (W H bit : ℕ) (b : Bool) (old : List ℕ) (start : ℕ) where
-  pub trail_none : Trail W H bit b old old start 0
-  trail_none = record { step = λ i l. absurd (omega arith); kept = λ q h. refl; len = refl }
-
   module _ (new : List ℕ) (s q : ℕ) (within : Within b (length old) start (s + 1)) (d : Trail W H bit b old new start s) where
     abbrev more : List ℕ
     more = set new (index_after b start (s + 1)) q

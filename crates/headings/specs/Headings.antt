@@ -1,8 +1,8 @@
 -- A heading is a direction of the table, walked on or back, on a plate of a size. These definitions serve contracts inside the engine only: no
 -- public contract cites them.
-use Rattle.std.specs.Prelude.{ℕ, zero, suc, ◌-◌, ◌^◌, ◌≤◌, ◌<◌, ◌≡◌, List}
+use Rattle.std.specs.Prelude.{ℕ, zero, suc, ◌-◌, ◌^◌, List, Option, Some, None}
 use Rattle.plate.specs.Directions.{step_at}
-use Rattle.plate.specs.Paths.{Reached, Reached.at, Reached.leaves, step_from, span}
+use Rattle.plate.specs.Paths.{Reached, Reached.at, Reached.leaves, step_from}
 use Rattle.headings.specs.declared.heading.Heading.{Heading}
 use Rattle.theory.specs.Walks.{around}
 use Rattle.theory.specs.Ranks.{steps_left}
@@ -24,18 +24,10 @@ room_at h p = steps_left h.width h.height (bit_of h) h.backwards p
 unfoldable pub reached_at : Heading → ℕ → ℕ → Reached
 reached_at h number p = step_from h.width h.height p (toward h.backwards (step_at h.index number))
 
--- the place reached, or `none` where the step leaves
-abbrev pub place_or : ℕ → Reached → ℕ
-place_or none (at q) = q
-place_or none leaves = none
-
--- the numbers of a heading are those of a plate and a direction
-pub record Known (h : Heading) : Type 0 where
-  pub wide : 1 ≤ h.width
-  pub narrow : h.width ≤ 1024
-  pub low : h.height ≤ 1024
-  pub listed : h.index < 4
-  pub is_longest : h.longest ≡ span h.width h.height (bit_of h)
+-- the place reached; none where the step leaves
+abbrev pub landed : Reached → Option ℕ
+landed (at q) = Some q
+landed leaves = None
 
 -- what a row adds to the rank of its pixels, beside their column
 unfoldable pub shift : ℕ → ℕ → ℕ → ℕ

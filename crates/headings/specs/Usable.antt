@@ -1,5 +1,5 @@
 -- The directions in which a trace can look for a path. These definitions serve contracts inside the engine only: no public contract cites them.
-use Rattle.std.specs.Prelude.{ℕ, ◌^◌, ◌<◌, min, Bool, true, ◌&&◌, ◌≡◌, leb, ltb}
+use Rattle.std.specs.Prelude.{ℕ, ◌^◌, ◌<◌, min, Bool, true, ◌&&◌, ◌≡◌, leb, ltb, Option, MatchOption}
 use Rattle.plate.specs.Directions.{member}
 use Rattle.plate.specs.Sizes.{span_of}
 use Rattle.plate.specs.declared.setting.Setting.{Setting}
@@ -12,7 +12,11 @@ bit_at index = 2 ^ min index 3
 unfoldable pub usable : ℕ → ℕ → Setting → ℕ → Bool
 usable W H s index = ltb index 4 && member s.directions (2 ^ index) && leb s.length (span_of W H index)
 
--- r is the table's index of the first such direction, or past the table where there is none
-pub record FirstUsable (W H : ℕ) (s : Setting) (r : ℕ) : Type 0 where
-  pub passes : r < 4 → usable W H s r ≡ true
-  pub none : (index : ℕ) → index < r → usable W H s index ≡ true → ⊥
+-- the direction at this index is usable, and none before it
+pub record First (W H : ℕ) (s : Setting) (index : ℕ) : Type 0 where
+  pub passes : usable W H s index ≡ true
+  pub none : (i : ℕ) → i < index → usable W H s i ≡ true → ⊥
+
+-- r is the table's index of the first such direction; or there is none, and no direction is usable
+abbrev pub FirstUsable : ℕ → ℕ → Setting → Option ℕ → Type 0
+FirstUsable W H s r = MatchOption r ((i : ℕ) → usable W H s i ≡ true → ⊥) (First W H s)

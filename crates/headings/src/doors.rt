@@ -6,7 +6,7 @@ ghost use Rattle.headings.specs.Trails.{Trail};
 ghost use Rattle.headings.specs.Doors.{stands_on, rank_of, inside, goes_on};
 
 use crate::heading::Heading;
-use crate::{heading, onward};
+use crate::onward;
 
 // Whether the plate has this direction and this pixel.
 fn stands_on(width: usize, height: usize, index: usize, p: usize) -> bool
@@ -22,20 +22,14 @@ fn stands_on(width: usize, height: usize, index: usize, p: usize) -> bool
 }
 
 // How many lines the pixel at p stands from where the direction's longest paths start; 0 where there is none.
+// By hand: the definition `rank_of` (specs/Doors.antt) gives a number of whatever is asked.
 pub fn rank_of(width: usize, height: usize, index: usize, p: usize) -> usize
     ensures { result ≡ rank_of width height index p }
 {
     if !stands_on(width, height, index, p) {
         return 0;
     }
-    let heading = Heading {
-        width: width,
-        height: height,
-        index: index,
-        longest: plate::span_of(width, height, index),
-        backwards: true,
-    };
-    heading::rank_of(heading, p)
+    Heading::new(width, height, index, true).rank_of(p)
 }
 
 // Whether a path buffer of this length has the indices of a path on, or back.
@@ -54,7 +48,8 @@ fn is_inside(backwards: bool, size: usize, start: usize, steps: usize) -> bool
     steps < size - start
 }
 
-// Writes a path of so many steps from the pixel at an index on, or back.
+// Writes a path of so many steps from the pixel at an index on, or back; true where it does. There is nothing to
+// say beside that, and one reason alone why not.
 pub fn follow_any(
     path: &mut [usize],
     width: usize,
@@ -74,14 +69,8 @@ pub fn follow_any(
     if !stands_on(width, height, index, place) {
         return false;
     }
-    let heading = Heading {
-        width: width,
-        height: height,
-        index: index,
-        longest: plate::span_of(width, height, index),
-        backwards: backwards,
-    };
-    if steps > heading::room_of(heading, place) {
+    let heading = Heading::new(width, height, index, backwards);
+    if steps > heading.room_of(place) {
         return false;
     }
     onward::follow_any(path, heading, start, steps);

@@ -4,6 +4,7 @@ ghost use Rattle.headings.specs.Trails.{index_of};
 
 // The index of the pixel so many steps from the picked one, back from its index or on; 0 where one of the two
 // is 65,536 or more, or where there are more steps back than indices.
+// By hand: the definition `index_of` (specs/Trails.antt) gives an index of whatever is asked.
 pub fn index_after(start: usize, steps: usize, backwards: bool) -> usize
     ensures { result ≡ index_of backwards start steps }
 {

@@ -8,12 +8,7 @@ use plate::Setting;
 pub fn bit_of(index: usize) -> usize
     ensures { (result ≡ bit_at index) × (1 ≤ result) }
 {
-    match index {
-        0 => 1,
-        1 => 2,
-        2 => 4,
-        _ => 8,
-    }
+    1 << index.min(3)
 }
 
 // Whether the direction at this index is chosen and has paths of the setting's length.
@@ -29,16 +24,9 @@ pub fn is_usable(width: usize, height: usize, setting: Setting, index: usize) ->
     setting.length <= plate::span_of(width, height, index)
 }
 
-// The index of the first usable direction, or past the table where there is none.
-pub fn first_usable(width: usize, height: usize, setting: Setting) -> usize
+// The index of the first usable direction; none where no direction is usable.
+pub fn first_usable(width: usize, height: usize, setting: Setting) -> Option<usize>
     ensures { FirstUsable width height setting result }
 {
-    let mut index = 0;
-    while index < plate::DIRECTIONS {
-        if is_usable(width, height, setting, index) {
-            return index;
-        }
-        index += 1;
-    }
-    index
+    (0..plate::DIRECTIONS).find(|index| is_usable(width, height, setting, *index))
 }

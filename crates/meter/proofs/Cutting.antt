@@ -1,56 +1,47 @@
--- Cutting a float to a whole number: one of at most 65,540 in size, N / D, can be cut, and what is left is N / D cut, with the float's sign. That is room
--- for four times a figure's number, and for a difference in eighths with a half.
-use Rattle.std.proofs.Common.{◌≡◌, ℕ, ◌+◌, ◌-◌, ◌*◌, ◌/◌, ◌^◌, ◌<◌, ◌≤◌, min, Bool, true, false, T, ltb, ℤ, pos, neg_ℤ, refl, ap, ◌∙◌, subst, le_trans, div-lt_iff_lt-mul, arith, lit<, lit≤, lt→ltb}
+-- Rounding a float N / D to a whole number: cut off, or to the nearest. A whole number of at most 24 digits is an f32 itself, so the result is exact, with
+-- the float's sign; and one of at most 32,767 in size is the same in 16 bits.
+use Rattle.std.proofs.Common.{◌≡◌, ℕ, ◌+◌, ◌-◌, ◌*◌, ◌/◌, ◌^◌, ◌<◌, ◌≤◌, min, Bool, true, false, Float, ℤ, pos, neg_ℤ, ap, ◌∙◌, subst, mul_left_comm, add-mul, arith, lit<}
 use native.Mathlib.Nat.{min-eq_left}
-use lib.Ieee.{Float, nan, inf, fin, up, down, lt, le, eq, to_signed}
+use lib.Ieee.{nan, inf, fin, binary32, up, down, round, to_signed}
+use lib.Ieee.Back.{round_whole}
 use lib.Ieee.Exact.{HasValue}
 use lib.Ieee.Fits.{down_pos}
 use lib.Ieee.Nearest.{div_same}
-use lib.Ieee.Order.{transfer}
-use Rattle.basics.proofs.Tests.{or_left}
+use Rattle.std.specs.Float.{round_with, ratio_floor, ratio_round_half_up, trunc, float_round}
 use Rattle.meter.proofs.Values.{with_sign}
 
--- x can be cut, and the whole number is z
-pub record Cut (x : Float) (z : ℤ) : Type 0 where
-  pub low : T (le (fin true 1 (pos 63)) x)
-  pub high : T (lt x (fin false 1 (pos 63)))
-  pub whole : to_signed 63 x ≡ z
+-- by any rule that gives k for every way to write N / D
+module _ (rule : ℕ → ℕ → ℕ) (N D k : ℕ) (gives : (a b : ℕ) → 0 < b → a * D ≡ N * b → rule a b ≡ k) (small : k ≤ 2 ^ 24) where
+  whole_value : (x : Float) (s : Bool) → HasValue x s N D → HasValue (round_with rule rule binary32 x) s k 1
+  unfolding round_with
+  whole_value nan s v = absurd v
+  whole_value (inf u) s v = absurd v
+  whole_value (fin false m e) s v =
+      rw (gives (m * up e) (down e) (down_pos e) v.1) (subst (λ (t : Bool). HasValue (round binary32 false k 1) t k 1) v.0 (round_whole binary32 false k small))
+  whole_value (fin true m e) s v =
+      rw (gives (m * up e) (down e) (down_pos e) v.1) (subst (λ (t : Bool). HasValue (round binary32 true k 1) t k 1) v.0 (round_whole binary32 true k small))
 
-module _ (N D : ℕ) (D-pos : 0 < D) (small : N ≤ 65540 * D) where
-  pub cut_small : N / D ≤ 65540
-  cut_small =
-      let h : N / D < 65541 = (div-lt_iff_lt-mul D-pos).1 (omega arith) in
-      omega arith
+pub cut_value : (N D : ℕ) → 0 < D → N / D ≤ 2 ^ 24 → (x : Float) (s : Bool) → HasValue x s N D → HasValue (trunc binary32 x) s (N / D) 1
+cut_value N D D-pos small = whole_value ratio_floor N D (N / D) (λ a b h e. div_same a b N D h D-pos e) small
 
-  size_small : (m : ℕ) (e : ℤ) → m * up e * D ≡ N * down e → m * up e * 1 ≤ 65540 * down e
-  size_small m e p = transfer (m * up e) 65540 (down e) 1 N 65540 D 1 D-pos (lit< tt) p refl (omega arith)
+-- eighths to the nearest, a half up in size
+nearest_of : (N a b : ℕ) → 0 < b → a * 8 ≡ N * b → (2 * a + b) / (2 * b) ≡ (N + 4) / 8
+nearest_of N a b h e = div_same (2 * a + b) (2 * b) (N + 4) 8 (omega arith) (lit< tt) (omega (arith, e, add-mul N 4 (2 * b), mul_left_comm N 2 b))
 
-  -- no end of the range cuts the whole part
-  cut_min : (m : ℕ) (e : ℤ) (top : ℕ) → 65540 ≤ top → m * up e * D ≡ N * down e → min (m * up e / down e) top ≡ N / D
-  cut_min m e top h p =
-      ap (λ (k : ℕ). min k top) (div_same (m * up e) (down e) N D (down_pos e) D-pos p)
-      ∙ min-eq_left (le_trans cut_small h)
+pub nearest_value : (N : ℕ) → (N + 4) / 8 ≤ 2 ^ 24 → (x : Float) (s : Bool) → HasValue x s N 8 → HasValue (float_round binary32 x) s ((N + 4) / 8) 1
+nearest_value N small = whole_value ratio_round_half_up N 8 ((N + 4) / 8) (nearest_of N) small
 
-  cut_fin : (s : Bool) (m : ℕ) (e : ℤ) → m * up e * D ≡ N * down e → Cut (fin s m e) (with_sign s (N / D))
-  unfolding le to_signed lt
-  cut_fin false m e p =
-      let x : ℕ = m * up e * 1 in
-      let top : ℕ = 1 * 2 ^ 63 * down e in
-      record {
-        low = or_left (ltb 0 (top + x)) (eq (fin true 1 (pos 63)) (fin false m e)) (lt→ltb 0 (top + x) (omega (arith, down_pos e)));
-        high = lt→ltb x top (omega (arith, down_pos e, size_small m e p));
-        whole = ap pos (cut_min m e (2 ^ 63 - 1) (lit≤ tt) p);
-      }
-  cut_fin true m e p =
-      let x : ℕ = m * up e * 1 in
-      let top : ℕ = 1 * 2 ^ 63 * down e in
-      record {
-        low = or_left (ltb x top) (eq (fin true 1 (pos 63)) (fin true m e)) (lt→ltb x top (omega (arith, down_pos e, size_small m e p)));
-        high = lt→ltb 0 (x + top) (omega (arith, down_pos e));
-        whole = ap (λ (k : ℕ). neg_ℤ (pos k)) (cut_min m e (2 ^ 63) (lit≤ tt) p);
-      }
+-- in 16 bits
+same_signed : (k m : ℕ) (e : ℤ) (top : ℕ) → k ≤ top → m * up e * 1 ≡ k * down e → min (m * up e / down e) top ≡ k
+same_signed k m e top h p =
+    let whole : m * up e / down e ≡ k / 1 = div_same (m * up e) (down e) k 1 (down_pos e) (lit< tt) p in
+    ap (λ (n : ℕ). min n top) (whole ∙ (let one : k / 1 ≡ k = omega arith in one)) ∙ min-eq_left h
 
-  pub cut : (x : Float) (s : Bool) → HasValue x s N D → Cut x (with_sign s (N / D))
-  cut nan s v = absurd v
-  cut (inf u) s v = absurd v
-  cut (fin u m e) s v = subst (λ (t : Bool). Cut (fin u m e) (with_sign t (N / D))) v.0 (cut_fin u m e v.1)
+pub in_16_bits : (x : Float) (s : Bool) (k : ℕ) → k ≤ 32767 → HasValue x s k 1 → to_signed 15 x ≡ with_sign s k
+unfolding to_signed
+in_16_bits nan s k h v = absurd v
+in_16_bits (inf u) s k h v = absurd v
+in_16_bits (fin false m e) s k h v =
+    subst (λ (t : Bool). pos (min (m * up e / down e) (2 ^ 15 - 1)) ≡ with_sign t k) v.0 (ap pos (same_signed k m e (2 ^ 15 - 1) h v.1))
+in_16_bits (fin true m e) s k h v =
+    subst (λ (t : Bool). neg_ℤ (pos (min (m * up e / down e) (2 ^ 15))) ≡ with_sign t k) v.0 (ap (λ (n : ℕ). neg_ℤ (pos n)) (same_signed k m e (2 ^ 15) (omega arith) v.1))

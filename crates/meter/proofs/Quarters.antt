@@ -2,17 +2,16 @@
 -- whole part cast back equals it where x equals the quarters, and out of the range nothing is counted.
 use Rattle.std.proofs.Common.{◌≡◌, ℕ, ◌+◌, ◌*◌, ◌/◌, ◌<◌, ◌≤◌, Bool, true, false, not, ◌&&◌, ◌||◌, T, eqb, ltb, leb, ℤ, pos, sym, refl, ap, ◌∙◌, subst, le_trans, le_of_eq, mul-le-mul_right, div-lt_iff_lt-mul, zero-mul, mul-one, mul-div_cancel, arith, lit<, lit≤, eqb→eq, lt→ltb, leb→le, ltb-false, ltb-true, eq-eqb, le-leb}
 use mathlib.Core.Bool.{beq}
-use native.Mathlib.Nat.{zero-div}
 use denote.Floats.{passes}
-use lib.Ieee.{Float, nan, inf, fin, binary32, up, down, fits, round, mul, eq, lt, le, of_int, of_bits, level}
+use lib.Ieee.{Float, nan, inf, fin, binary32, up, down, fits, mul, eq, lt, le, of_bits, level}
 use lib.Ieee.Exact.{HasValue}
 use lib.Ieee.Fits.{and_l, and_r, and_i, down_pos}
-use lib.Ieee.Back.{round_whole}
 use Rattle.basics.proofs.Tests.{or_left, not-false}
 use Rattle.meter.specs.Numbers.{max_quarters, quarters, is_quarters, quarters_of, bad_number}
-use Rattle.meter.proofs.Values.{with_sign, eq_at}
+use Rattle.std.specs.Float.{trunc}
+use Rattle.meter.proofs.Values.{eq_at}
 use Rattle.meter.proofs.FourTimes.{times_four}
-use Rattle.meter.proofs.Cutting.{Cut, cut, cut_small}
+use Rattle.meter.proofs.Cutting.{cut_value}
 
 -- ---- the definition counts what equals a count, and nothing else
 
@@ -106,53 +105,43 @@ pub above_range : (x : Float) → le x (of_bits binary32 1174405120) ≡ false �
 unfolding of_bits
 above_range x f = none_there x (λ t. subst T f (in_range x (quarters_of x) t).1)
 
--- ---- what is known in the range of y = 4 x and of y's whole part
+-- ---- y = 4 x in the range, and y cut to a whole number
 
 -- 4.0 as the code has it
 abbrev pub four_times : Float → Float
 four_times x = mul binary32 x (of_bits binary32 1082130432)
 
-pub record Known (x : Float) : Type 0 where
-  -- its whole part
-  pub whole : ℕ
-  pub cut_off : Cut (four_times x) (pos whole)
-  pub small : whole ≤ 65540
-  pub told : eq (four_times x) (of_int binary32 (pos whole)) ≡ not (bad_number x)
-
--- −0 is the only number of the range with a sign
-unsigned : (s : Bool) (n : ℕ) → (s ≡ true → n ≡ 0) → with_sign s n ≡ pos n
-unsigned false n h = refl
-unsigned true n h = rw (h refl)
+-- the sign of a number that is 0 makes no difference
+sign_aside : (s : Bool) (n k : ℕ) → (s ≡ true → n ≡ 0) → level s n s k ≡ level s n false k
+sign_aside false n k h = refl
+sign_aside true n k h = rw (h refl)
 
 kept : (a b : Bool) → b ≡ true → a ≡ not (not (a && b))
 kept true b e = rw e
 kept false b e = refl
 
-known_fin : (s : Bool) (m : ℕ) (e : ℤ) → T (fits binary32 (fin s m e)) → Inside s m e → Known (fin s m e)
-unfolding of_bits bad_number is_quarters quarters_of of_int
-known_fin s m e t r =
+told_fin : (s : Bool) (m : ℕ) (e : ℤ) → T (fits binary32 (fin s m e)) → Inside s m e →
+    eq (four_times (fin s m e)) (trunc binary32 (four_times (fin s m e))) ≡ not (bad_number (fin s m e))
+unfolding of_bits bad_number is_quarters quarters_of
+told_fin s m e t r =
     let N : ℕ = m * up e * 4 in
     let D : ℕ = down e in
     let y : Float = mul binary32 (fin s m e) (fin false 1 (pos 2)) in
     let v : HasValue y s N D = times_four s m e t r.bound in
     let b : N ≤ 32768 * D = let h : m * up e ≤ 8192 * D = r.bound in omega arith in
-    let room : N ≤ 65540 * D = le_trans b (mul-le-mul_right D (lit≤ tt)) in
     let c : N / D ≤ max_quarters = let h : N / D < 32769 = (div-lt_iff_lt-mul (down_pos e)).1 (omega (arith, down_pos e)) in omega arith in
-    let none : s ≡ true → N / D ≡ 0 = λ w. ap (λ (a : ℕ). a * 4 / D) (r.sign w) ∙ zero-div D in
-    record {
-      whole = N / D;
-      cut_off = subst (λ (k : ℤ). Cut y k) (unsigned s (N / D) none) (cut N D (down_pos e) room y s v);
-      small = cut_small N D (down_pos e) room;
-      told =
-          eq_at y (round binary32 false (N / D) 1) s false N D (N / D) 1 (down_pos e) (lit< tt) v (round_whole binary32 false (N / D) (le_trans c (lit≤ tt)))
-          ∙ ap (λ (a : ℕ). level s a false (N / D * D)) (mul-one N)
-          ∙ sym (eq_at (fin s m e) (quarters (N / D)) s false (m * up e) D (N / D) 4 (down_pos e) (lit< tt) (refl, refl) (refl, ap (λ (a : ℕ). a * 4) (mul-one (N / D))))
-          ∙ kept (eq (fin s m e) (quarters (N / D))) (leb (N / D) max_quarters) (le-leb (N / D) max_quarters c);
-    }
+    let none : s ≡ true → N ≡ 0 = λ w. ap (λ (a : ℕ). a * 4) (r.sign w) in
+    eq_at y (trunc binary32 y) s s N D (N / D) 1 (down_pos e) (lit< tt) v (cut_value N D (down_pos e) (le_trans c (lit≤ tt)) y s v)
+    ∙ ap (λ (a : ℕ). level s a s (N / D * D)) (mul-one N)
+    ∙ sign_aside s N (N / D * D) none
+    ∙ sym (eq_at (fin s m e) (quarters (N / D)) s false (m * up e) D (N / D) 4 (down_pos e) (lit< tt) (refl, refl) (refl, ap (λ (a : ℕ). a * 4) (mul-one (N / D))))
+    ∙ kept (eq (fin s m e) (quarters (N / D))) (leb (N / D) max_quarters) (le-leb (N / D) max_quarters c)
 
-pub known : (x : Float) → fits binary32 x ≡ true → le (of_bits binary32 0) x ≡ true → le x (of_bits binary32 1174405120) ≡ true → Known x
+-- in the range y is whole exactly where x is a count of quarters
+pub told : (x : Float) → fits binary32 x ≡ true → le (of_bits binary32 0) x ≡ true → le x (of_bits binary32 1174405120) ≡ true →
+    eq (four_times x) (trunc binary32 (four_times x)) ≡ not (bad_number x)
 unfolding of_bits le lt eq
-known nan f l h = absurd (passes false l)
-known (inf false) f l h = absurd (passes false h)
-known (inf true) f l h = absurd (passes false l)
-known (fin s m e) f l h = known_fin s m e (passes (fits binary32 (fin s m e)) f) (inside s m e (passes (le (fin false 0 (pos 0)) (fin s m e)) l) (passes (le (fin s m e) (fin false 1 (pos 13))) h))
+told nan f l h = absurd (passes false l)
+told (inf false) f l h = absurd (passes false h)
+told (inf true) f l h = absurd (passes false l)
+told (fin s m e) f l h = told_fin s m e (passes (fits binary32 (fin s m e)) f) (inside s m e (passes (le (fin false 0 (pos 0)) (fin s m e)) l) (passes (le (fin s m e) (fin false 1 (pos 13))) h))

@@ -1,13 +1,11 @@
 -- Document 02, N6: the correction that a lamp figure and a dark figure give, in whole eighths over the integers, and the checks of the call.
 use Rattle.std.specs.Prelude.{ℕ, suc, ◌+◌, ◌-◌, ◌*◌, ◌/◌, Bool, ◌||◌, [], ◌∷◌, ℤ, pos, negsuc, ◌-ℤ◌, neg_ℤ}
-use Rattle.plate.specs.Refusals.{Verdict, Verdict.accepted, Verdict.refused, Check, row, judged}
+use Rattle.plate.specs.Refusals.{Verdict, Check, row, judged}
 use Rattle.plate.specs.RefusalNumbers.{refusal_figure}
 use Rattle.meter.specs.Numbers.{quarters_of, bad_number}
 use Rattle.meter.specs.declared.figure.Figure.{Figure}
 use Rattle.meter.specs.declared.figure.Figure.TheVariants.{Steady, Drifting}
 use Rattle.meter.specs.declared.Meter.{Meter}
-use Rattle.meter.specs.declared.Correction.{Correction}
-use Rattle.meter.specs.declared.Correction.TheVariants.{Word, Refused}
 
 -- a figure in eighths: a steady one has twice its quarters; the mean of two numbers has as many eighths as both have quarters
 abbrev pub eighths_of : Figure → ℕ
@@ -45,8 +43,3 @@ figure_check f = row refusal_figure (bad_figure f) 0
 -- 19, for the lamp figure first; accepted, the call gives the word
 unfoldable pub meter_verdict : Meter → Verdict ℕ
 meter_verdict m = judged (figure_check m.lamp ∷ figure_check m.dark ∷ []) (word_of (correction_of m))
-
--- the answer enum, case by case
-abbrev pub answered_by : Correction → Verdict ℕ
-answered_by (Word word) = accepted word
-answered_by (Refused number place) = refused number place

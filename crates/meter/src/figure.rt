@@ -10,33 +10,16 @@ pub enum Figure {
     Drifting(f32, f32),
 }
 
-// The number that a figure stands for, or that one of its numbers may not be reported.
-#[derive(Clone, Copy)]
-pub(crate) enum Resolved {
-    Mean(f32),
-    Bad,
-}
-
 impl Figure {
-    // Each number is judged before the mean is taken: two bad ones can have a good mean.
-    pub(crate) fn resolved(self) -> Resolved
+    // The number that the figure stands for; none where one of its numbers may not be reported. Each number is
+    // judged before the mean is taken: two bad ones can have a good mean.
+    pub(crate) fn resolved(self) -> Option<f32>
         ensures { Resolves result self }
     {
         match self {
-            Figure::Steady(x) => {
-                if is_quarters(x) {
-                    return Resolved::Mean(x);
-                }
-                Resolved::Bad
-            }
-            Figure::Drifting(x, y) => {
-                if is_quarters(x) {
-                    if is_quarters(y) {
-                        return Resolved::Mean(mean(x, y));
-                    }
-                }
-                Resolved::Bad
-            }
+            Figure::Steady(x) if is_quarters(x) => Some(x),
+            Figure::Drifting(x, y) if is_quarters(x) && is_quarters(y) => Some(mean(x, y)),
+            _ => None,
         }
     }
 }

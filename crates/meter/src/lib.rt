@@ -6,7 +6,8 @@
 #![tactic(auto)]
 
 ghost use Rattle.std.specs.Prelude.{◌≡◌};
-ghost use Rattle.meter.specs.Corrections.{answered_by, meter_verdict};
+ghost use Rattle.plate.specs.Answers.{told};
+ghost use Rattle.meter.specs.Corrections.{meter_verdict};
 
 mod difference;
 mod figure;
@@ -14,9 +15,14 @@ mod numbers;
 mod rounding;
 
 use crate::difference::Means;
-use crate::figure::Resolved;
 pub use figure::Figure;
-use plate::refusal;
+use plate::{Reason, Refusal};
+
+// A figure with a number that may not be reported.
+const BAD: Refusal = Refusal {
+    reason: Reason::Figure,
+    place: 0,
+};
 
 // What the meter reports.
 #[derive(Clone, Copy)]
@@ -25,35 +31,16 @@ pub struct Meter {
     pub dark: Figure,
 }
 
-// The correction as a word in two's complement, or a refusal.
-#[derive(Clone, Copy)]
-pub enum Correction {
-    Word(u16),
-    Refused { number: usize, place: usize },
-}
-
 impl Meter {
-    // Dark less lamp, rounded to a whole level, as a word; 19 where a number may not be reported.
-    pub fn correction(self) -> Correction
-        ensures { answered_by result ≡ meter_verdict self }
+    // Dark less lamp, rounded to a whole level, as a word in two's complement; 19 where a number may not be
+    // reported.
+    pub fn correction(self) -> Result<u16, Refusal>
+        ensures { told result ≡ meter_verdict self }
     {
-        let lamp_figure = self.lamp;
-        let lamp = lamp_figure.resolved();
-        let Resolved::Mean(l) = lamp else {
-            return Correction::Refused {
-                number: refusal::FIGURE,
-                place: 0,
-            };
+        let means = Means {
+            lamp: self.lamp.resolved().ok_or(BAD)?,
+            dark: self.dark.resolved().ok_or(BAD)?,
         };
-        let dark_figure = self.dark;
-        let dark = dark_figure.resolved();
-        let Resolved::Mean(d) = dark else {
-            return Correction::Refused {
-                number: refusal::FIGURE,
-                place: 0,
-            };
-        };
-        let means = Means { lamp: l, dark: d };
-        Correction::Word(rounding::word_of(rounding::rounded(means.difference())))
+        Ok(rounding::word_of(rounding::rounded(means.difference())))
     }
 }

@@ -5,3 +5,4 @@ pub mod FormTests
 pub mod LineForms
 pub mod RankForms
 pub mod FormLaws
+pub mod FollowedSizes

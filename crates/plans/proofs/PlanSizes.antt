@@ -1,7 +1,6 @@
 -- Sizes of plans: the rows of a state are few, where its keys begin is a small number, and a plane lies within its row.
 use Prim.Native.Nat.{ℕ, ◌+◌, ◌-◌, ◌*◌, ◌≤◌, ◌<◌, min}
 use mathlib.Core.Bool.{Bool, true, false, cond}
-use native.Mathlib.Nat.{mul-le-mul}
 use native.Mathlib.Omega.{arith}
 use lib.Dec.{leb}
 use Rattle.basics.proofs.Numbers.{rows_fit}
@@ -17,10 +16,6 @@ rows_few p e = go p.still (leb (e + 1) p.orders)
     go true true = omega arith
     go true false = omega arith
     go false more = omega arith
-
--- a line or rank times a width
-pub small_product : (a b : ℕ) → a < 196608 → b ≤ 1024 → a * b ≤ 196608 * 1024
-small_product a b p q = let l : a ≤ 196608 = omega arith in mul-le-mul l q
 
 -- a plane of a held row, and of a row of a state, lies within it
 pub plane_fits : (p : Plan) (j : ℕ) → j < p.planes → j * pitch_of p + pitch_of p ≤ block_of p

@@ -4,7 +4,7 @@ use mathlib.Core.Path.{◌≡◌, refl, sym, ap, ◌∙◌}
 use mathlib.Core.Bool.{Bool, true, false, cond, ◌&&◌}
 use native.Mathlib.Omega.{arith}
 use lib.Dec.{leb, ltb}
-use borrow.Author.Tests.{lt-ltb, le-ltb, le-leb, ltb-true, leb-true}
+use borrow.Author.Tests.{lt-ltb, le-leb, ltb-true, leb-true}
 use Rattle.plans.specs.Plans.{order_of, row_lo, row_hi, row_at, rows_in, is_small, row_of, Sound}
 use Rattle.plans.specs.declared.plan.Plan.{Plan}
 use Rattle.plans.specs.declared.plan.Row.{Row}
@@ -12,20 +12,6 @@ use Rattle.plans.proofs.PlanSizes.{rows_few}
 use Rattle.plans.proofs.FormFacts.{both}
 
 module _ (p : Plan) (e m : ℕ) where
-  -- ---- the tests in their order
-
-  pub small_1 : 65536 ≤ e → false ≡ is_small p e m
-  unfolding is_small
-  small_1 a = rw (le-ltb e 65536 a) refl
-
-  pub small_2 : e < 65536 → 65536 ≤ m → false ≡ is_small p e m
-  unfolding is_small
-  small_2 a b = rw (lt-ltb e 65536 a, le-ltb m 65536 b) refl
-
-  pub small_3 : e < 65536 → m < 65536 → 65536 ≤ p.origin → false ≡ is_small p e m
-  unfolding is_small
-  small_3 a b d = rw (lt-ltb e 65536 a, lt-ltb m 65536 b, le-ltb p.origin 65536 d) refl
-
   pub small_4 : e < 65536 → m < 65536 → p.origin < 65536 → leb p.across 1024 ≡ is_small p e m
   unfolding is_small
   small_4 a b d = rw (lt-ltb e 65536 a, lt-ltb m 65536 b, lt-ltb p.origin 65536 d) refl

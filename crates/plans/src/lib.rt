@@ -3,9 +3,11 @@
 #![tactic(auto)]
 
 mod ends;
+mod followed;
 mod form;
 mod plan;
 
 pub use ends::{MAX_KEY, gap_end};
+pub use followed::Followed;
 pub use form::is_well_formed;
 pub use plan::{MARGIN, Plan, Reach, Row, row_of, rows_in};

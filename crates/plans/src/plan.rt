@@ -10,6 +10,7 @@ pub const MARGIN: usize = 16;
 
 // Where the three steps find their numbers: in the row before of the same state (y 0), in the row before
 // of the last state (1) or in the same row of the last state (2); one pixel back, none or one on, plus one.
+// By number: `Readable` and `step_held` of specs/, from which the crates above prove, reckon with both.
 #[derive(Clone, Copy)]
 pub struct Reach {
     pub x0: usize,
@@ -62,62 +63,58 @@ pub struct Row {
 }
 
 // The line or rank that has this number.
+#[tactic(auto, unfolding(crate::specs::Plans::line_of))]
 fn line_of(plan: Plan, order: usize) -> usize
     requires { (order < 131072) × (plan.origin < 65536) }
     ensures { (result ≡ line_of plan order) × (result < 196608) }
 {
     if plan.back {
-        return over(plan.origin, order);
+        plan.origin.saturating_sub(order)
+    } else {
+        plan.origin + order
     }
-    plan.origin + order
-}
-
-// By how much a is more than b, 0 where it is not.
-fn over(a: usize, b: usize) -> usize
-    ensures { result ≡ a - b }
-{
-    if a < b { 0 } else { a - b }
 }
 
 // The first pixel of a line or rank, and the one past its last.
+#[tactic(auto, unfolding(crate::specs::Plans::first_in))]
 fn first_in(plan: Plan, line: usize) -> usize
     requires { line < 196608 }
     ensures { result ≡ first_in plan line }
 {
     if plan.ranked {
-        let low = over(line + 1, plan.bottom);
-        if low > plan.left {
-            return low;
-        }
+        plan.left.max((line + 1).saturating_sub(plan.bottom))
+    } else {
+        plan.left
     }
-    plan.left
 }
 
+#[tactic(auto, unfolding(crate::specs::Plans::past_in))]
 fn past_in(plan: Plan, line: usize) -> usize
     requires { line < 196608 }
     ensures { result ≡ past_in plan line }
 {
     if plan.ranked {
-        let high = over(line + 1, plan.top);
-        if high < plan.right {
-            return high;
-        }
+        plan.right.min((line + 1).saturating_sub(plan.top))
+    } else {
+        plan.right
     }
-    plan.right
 }
 
 // Where the keys of a line or rank begin.
+#[tactic(auto, unfolding(crate::specs::Plans::keys_of))]
 fn keys_of(plan: Plan, line: usize) -> usize
     requires { (line < 196608) × (plan.across ≤ 1024) }
     ensures { result ≡ keys_of plan line }
 {
     if line >= plan.lines {
-        return (line - plan.lines) * plan.across;
+        (line - plan.lines) * plan.across
+    } else {
+        line * plan.across
     }
-    line * plan.across
 }
 
 // The number of row m of state e.
+#[tactic(auto, unfolding(crate::specs::Plans::order_of))]
 fn order_of(plan: Plan, e: usize, m: usize) -> usize
     requires { (e < 65536) × (m < 65536) }
     ensures { result ≡ order_of plan e m }
@@ -126,22 +123,15 @@ fn order_of(plan: Plan, e: usize, m: usize) -> usize
 }
 
 // Whether the numbers are so small that no line or key is out of reach.
+#[tactic(auto, unfolding(crate::specs::Plans::is_small))]
 fn is_small(plan: Plan, e: usize, m: usize) -> bool
     ensures { result ≡ is_small plan e m }
 {
-    if e >= 65536 {
-        return false;
-    }
-    if m >= 65536 {
-        return false;
-    }
-    if plan.origin >= 65536 {
-        return false;
-    }
-    plan.across <= 1024
+    e < 65536 && m < 65536 && plan.origin < 65536 && plan.across <= 1024
 }
 
-// Row m of state e; an empty one where the numbers are no row's.
+// Row m of state e; an empty one where the numbers are no row's: so `row_of` of specs/ says it to the crates
+// above, and no `Option`.
 pub fn row_of(plan: Plan, e: usize, m: usize) -> Row
     ensures { result ≡ row_of plan e m }
 {
@@ -161,15 +151,13 @@ pub fn row_of(plan: Plan, e: usize, m: usize) -> Row
 }
 
 // How many rows state e has; none past the last number.
+#[tactic(auto, unfolding(crate::specs::Plans::rows_in))]
 pub fn rows_in(plan: Plan, e: usize) -> usize
     ensures { result ≡ rows_in plan e }
 {
     if plan.still {
-        if e < plan.orders {
-            return plan.rows;
-        }
-        return 0;
+        if e < plan.orders { plan.rows } else { 0 }
+    } else {
+        plan.rows.min(plan.orders.saturating_sub(e))
     }
-    let left = over(plan.orders, e);
-    if left < plan.rows { left } else { plan.rows }
 }

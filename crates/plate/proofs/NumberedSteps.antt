@@ -5,6 +5,7 @@ use mathlib.Core.List.{List, [], ◌∷◌, map}
 use mathlib.Core.Logic.{⊎_elim}
 use native.Mathlib.Omega.{arith}
 use lib.Dec.{eqb}
+use Rattle.std.specs.Prelude.{Some, None}
 use lib.ListN.{length, get_or, length-map, get_or-eq_default}
 use lib.IntN.{ℤ, pos, negsuc}
 use borrow.Author.Tests.{lt-ltb, le-ltb}
@@ -15,6 +16,7 @@ use Rattle.basics.proofs.Lists.{map_at}
 use Rattle.plate.specs.Directions.{Step, Direction, table, steps_in, steps, index_of, step_at}
 use Rattle.plate.specs.Paths.{Reached.at, Reached.leaves, place_at, step_from, numbered_step}
 use Rattle.plate.specs.Within.{within}
+use Rattle.plate.proofs.Within.{within_some, within_none}
 
 -- ---- the direction, by its index
 
@@ -58,29 +60,23 @@ module _ (W H bit number p : ℕ) where
 
 -- ---- where it leads, by column and row
 
-pub column_leaves : (W H : ℕ) (x y : ℤ) → W ≤ within W x → place_at W H x y ≡ leaves
-unfolding place_at within
-column_leaves W H (negsuc c) y h = refl
-column_leaves W H (pos c) (negsuc r) h = refl
-column_leaves W H (pos c) (pos r) h =
-    ⊎_elim (λ e. rw (le-ltb c W e)) (λ e. absurd (let k : W ≤ c = rw (lt-ltb c W e) at h in omega arith)) (le_or_lt W c)
+pub column_leaves : (W H : ℕ) (x y : ℤ) → within W x ≡ None → place_at W H x y ≡ leaves
+unfolding place_at
+column_leaves W H (negsuc c) y e = refl
+column_leaves W H (pos c) (negsuc r) e = refl
+column_leaves W H (pos c) (pos r) e = rw (le-ltb c W (within_none W c e))
 
-pub row_leaves : (W H : ℕ) (x y : ℤ) → within W x < W → H ≤ within H y → place_at W H x y ≡ leaves
-unfolding place_at within
-row_leaves W H (negsuc c) y k h = refl
-row_leaves W H (pos c) (negsuc r) k h = refl
-row_leaves W H (pos c) (pos r) k h =
-    ⊎_elim
-    (λ e. absurd (let k' : W < W = rw (le-ltb c W e) at k in omega arith))
-    (λ e. ⊎_elim (λ g. rw (lt-ltb c W e, le-ltb r H g)) (λ g. absurd (let h' : H ≤ r = rw (lt-ltb r H g) at h in omega arith)) (le_or_lt H r))
-    (le_or_lt W c)
+pub row_leaves : (W H : ℕ) (x y : ℤ) → within H y ≡ None → place_at W H x y ≡ leaves
+unfolding place_at
+row_leaves W H (negsuc c) y e = refl
+row_leaves W H (pos c) (negsuc r) e = refl
+row_leaves W H (pos c) (pos r) e =
+    let h = le-ltb r H (within_none H r e) in
+    ⊎_elim (λ g. rw (le-ltb c W g)) (λ g. rw (lt-ltb c W g, h)) (le_or_lt W c)
 
-pub place_reached : (W H : ℕ) (x y : ℤ) → within W x < W → within H y < H → place_at W H x y ≡ at (within H y * W + within W x)
-unfolding place_at within
-place_reached W H (negsuc c) y k h = absurd (omega arith)
-place_reached W H (pos c) (negsuc r) k h = absurd (omega arith)
-place_reached W H (pos c) (pos r) k h =
-    ⊎_elim
-    (λ e. absurd (let k' : W < W = rw (le-ltb c W e) at k in omega arith))
-    (λ e. ⊎_elim (λ g. absurd (let h' : H < H = rw (le-ltb r H g) at h in omega arith)) (λ g. rw (lt-ltb c W e, lt-ltb r H g)) (le_or_lt H r))
-    (le_or_lt W c)
+pub place_reached : (W H : ℕ) (x y : ℤ) (c r : ℕ) → within W x ≡ Some c → within H y ≡ Some r → place_at W H x y ≡ at (r * W + c)
+unfolding place_at
+place_reached W H x y c r p q =
+    let h = within_some W x c p in
+    let k = within_some H y r q in
+    rw (h.0, k.0, lt-ltb c W h.1, lt-ltb r H k.1)

@@ -1,5 +1,5 @@
 -- A call is accepted exactly when none of its checks refuses, and the first that does decides.
-use mathlib.Core.Path.{◌≡◌, refl, subst}
+use mathlib.Core.Path.{◌≡◌, refl, sym, subst, ◌∙◌}
 use mathlib.Core.Bool.{Bool, true, false, cond}
 use mathlib.Core.List.{List, [], ◌∷◌, ◌++◌, append-nil}
 use mathlib.Core.Logic.{⊎_elim}
@@ -77,3 +77,13 @@ same_after a (c ∷ cs) ds es same =
 pub clear_second : (cs ds : List Check) → Clear (cs ++ ds) → Clear ds
 clear_second [] ds h = h
 clear_second (c ∷ cs) ds h = clear_second cs ds h.1
+
+-- ---- one check at a time, as the code makes them
+
+pub check_passes : (c : Check) → ◌≡◌ {A = Verdict (Unit {0})} (accepted tt) (judged (c ∷ []) tt) → c.refuses ≡ false
+check_passes c e = (accepted_clear {A = Unit {0}} (c ∷ []) tt tt (sym e)).1.0
+
+-- the checks before it have passed, and this one refuses
+pub check_refuses :
+    {A : Type 0} {n p : ℕ} (a : A) (cs : List Check) (c : Check) (ds : List Check) → Clear cs → ◌≡◌ {A = Verdict (Unit {0})} (refused n p) (judged (c ∷ []) tt) → refused n p ≡ judged (cs ++ (c ∷ ds)) a
+check_refuses {A} {n} {p} a cs c ds clear e = sym (passed_first a cs (c ∷ ds) clear ∙ refused_first {A = Unit {0}} tt a (c ∷ []) ds n p (sym e))

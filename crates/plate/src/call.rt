@@ -4,9 +4,9 @@
 ghost use Rattle.std.specs.Prelude.{◌≡◌};
 ghost use Rattle.plate.specs.Answers.{answered, wanted_for, call_verdict};
 
-use crate::answer::Answer;
-use crate::setting::{Made, Setting};
-use crate::{refusal, size};
+use crate::refusal::{Reason, Refusal};
+use crate::setting::Setting;
+use crate::size;
 
 // What a call fills: a result, which has a number for each pixel, or a path, which has L places.
 #[derive(Clone, Copy)]
@@ -37,43 +37,15 @@ fn wanted(fills: Fills, pixels: usize, length: usize) -> usize
 
 // Refuses (1 to 8, 18), or is done: then every number is within its bounds and every buffer as long as it has
 // to be. The size's product is formed only after the size has passed, and the work's length after the gaps.
-pub fn judge(width: usize, height: usize, setting: Setting, lent: Lent) -> Answer
+pub fn judge(width: usize, height: usize, setting: Setting, lent: Lent) -> Result<(), Refusal>
     ensures { answered result ≡ call_verdict width height setting lent }
 {
-    if size::bad_size(width, height) {
-        return Answer::Refused {
-            number: refusal::SIZE,
-            place: 0,
-        };
-    }
-    let made = setting.checked();
-    if let Made::Refused { number, place } = made {
-        return Answer::Refused {
-            number: number,
-            place: place,
-        };
-    }
+    Reason::Size.refuse_if(size::bad_size(width, height))?;
+    setting.checked()?;
     let pixels = width * height;
-    let fills = lent.fills;
-    let exactly = wanted(fills, pixels, setting.length);
+    let exactly = wanted(lent.fills, pixels, setting.length);
     let at_least = 4 * (setting.gaps + 1) * pixels;
-    if lent.input != pixels {
-        return Answer::Refused {
-            number: refusal::INPUT,
-            place: 0,
-        };
-    }
-    if lent.filled != exactly {
-        return Answer::Refused {
-            number: refusal::RESULT,
-            place: 0,
-        };
-    }
-    if lent.work < at_least {
-        return Answer::Refused {
-            number: refusal::WORK,
-            place: 0,
-        };
-    }
-    Answer::Done
+    Reason::Input.refuse_if(lent.input != pixels)?;
+    Reason::Result.refuse_if(lent.filled != exactly)?;
+    Reason::Work.refuse_if(lent.work < at_least)
 }

@@ -6,11 +6,7 @@ ghost use Rattle.plate.specs.Levels.{signed, mirror, key, level};
 pub fn signed_correction(word: u16) -> i32
     ensures { result ≡ signed word }
 {
-    if word < 32768 {
-        word as i32
-    } else {
-        word as i32 - 65536
-    }
+    i32::from(word.cast_signed())
 }
 
 // Light and dark exchanged. −1 − v, since −(−32,768) would not fit.

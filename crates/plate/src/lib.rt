@@ -9,18 +9,19 @@
 mod answer;
 mod call;
 mod level;
-pub mod refusal;
+mod refusal;
 mod setting;
 mod size;
 mod span;
 mod steps;
 mod walker;
 
-pub use answer::{Answer, Traced};
+pub use answer::Trace;
 pub use call::{Fills, Lent, judge};
 pub use level::{key_of, level_of, mirrored, signed_correction};
-pub use setting::{Made, Setting};
+pub use refusal::{Reason, Refusal};
+pub use setting::Setting;
 pub use size::{MAX_PIXELS, MAX_SIDE, bad_size};
 pub use span::span_of;
 pub use steps::{DIRECTIONS, STEPS_EACH, column_change, index_of, row_change};
-pub use walker::{Moved, Walker};
+pub use walker::Walker;

@@ -1,5 +1,6 @@
 // The sizes that a plate may have. The product is formed only after both sides are known to be small, so that
-// it cannot wrap.
+// it cannot wrap. Width and height go through every public function as two numbers, any numbers: refusal 1 is
+// of those that are no size, so a type that has only the right ones would ask more of callers.
 ghost use Rattle.std.specs.Prelude.{◌≡◌};
 ghost use Rattle.plate.specs.Refusals.{bad_size};
 
@@ -12,17 +13,9 @@ pub const MAX_PIXELS: usize = 65536;
 pub fn bad_size(width: usize, height: usize) -> bool
     ensures { result ≡ bad_size width height }
 {
-    if width == 0 {
-        return true;
-    }
-    if width > MAX_SIDE {
-        return true;
-    }
-    if height == 0 {
-        return true;
-    }
-    if height > MAX_SIDE {
-        return true;
-    }
-    width * height > MAX_PIXELS
+    width == 0
+        || width > MAX_SIDE
+        || height == 0
+        || height > MAX_SIDE
+        || width * height > MAX_PIXELS
 }

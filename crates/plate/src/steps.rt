@@ -12,11 +12,13 @@ const STEPS: [[[i8; 2]; 3]; 4] = [
     [[1, 0], [1, 1], [0, 1]], // south-east
 ];
 
+// Directions and their steps go by number, since every public function that takes one takes any.
 pub const DIRECTIONS: usize = 4;
 
 pub const STEPS_EACH: usize = 3;
 
-// The table's index of the direction with this bit, and past the table where there is none.
+// The table's index of the direction with this bit. By hand: past the table where there is none, since the
+// definition `index_of` gives a number of every bit.
 pub fn index_of(direction: usize) -> usize
     ensures { result ≡ index_of direction }
 {
@@ -29,7 +31,8 @@ pub fn index_of(direction: usize) -> usize
     }
 }
 
-// The column change of a numbered step of the direction with this index; 0 past the table.
+// The column change of a numbered step of the direction with this index. By hand, as the row change: 0 past the
+// table, since the definition `step_at` gives a step of whatever is asked.
 pub fn column_change(index: usize, number: usize) -> i8
     ensures { result ≡ (step_at index number).column }
 {
@@ -43,7 +46,7 @@ pub fn row_change(index: usize, number: usize) -> i8
     change(index, number, 1)
 }
 
-// An entry of the table: the column change (part 0) or the row change (part 1).
+// An entry of the table: the column change (part 0) or the row change (part 1), which is the entry's own index.
 fn change(index: usize, number: usize, part: usize) -> i8
     requires { part < 2 }
     ensures { result ≡ change_of part (step_at index number) }

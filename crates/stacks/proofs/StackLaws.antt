@@ -1,7 +1,6 @@
 -- The stack of states. A state's numbers lie within its size, and its keys below the keys' size, so that it stays as it is where only other places
 -- change, and is made of the keys that stand in the work buffer. States lie one after the other, each of one size: a new one leaves those before it
--- as they are. It is made of the last, or of none where it is the first. The stride to it is at least 1, since a product of a positive number with t
--- and more, divided by t, is.
+-- as they are. It is made of the last, or of none where it is the first.
 use Prim.Native.Nat.{ℕ, zero, suc, ◌+◌, ◌-◌, ◌*◌, ◌/◌, ◌≤◌, ◌<◌}
 use mathlib.Core.Path.{◌≡◌, refl, sym, ap, ◌∙◌, subst}
 use mathlib.Core.Bool.{true}
@@ -20,17 +19,8 @@ use Rattle.plans.specs.declared.plan.Plan.{Plan}
 use Rattle.stacks.specs.declared.stack.Stack.{Stack}
 use Rattle.plans.proofs.PlanSizes.{rows_few}
 use Rattle.states.proofs.SizeLaws.{row_small, half_linked}
-use Rattle.states.proofs.PlaneLaws.{apart_none, apart_then, apart_wider}
+use Rattle.states.proofs.PlaneLaws.{apart_then, apart_wider}
 use Rattle.states.proofs.StateLaws.{grown_keys}
-
--- ---- the stride
-
-pub product_small : (c places t : ℕ) → c ≤ 1024 → places ≤ 65 → t < 1024 → c * (places + t) ≤ 1114112
-product_small c places t hc hp ht = let e : c * (places + t) ≤ 1024 * 1088 = mul-le-mul hc (let f : places + t ≤ 1088 = omega arith in f) in omega arith
-
-pub quotient_grows : (c places t : ℕ) → 1 ≤ t → c ≤ c * (places + t) / t
-quotient_grows c places t ht =
-    let e : c * t ≤ c * (places + t) = mul-le-mul {n₁ = c} {m₁ = t} {n₂ = c} {m₂ = places + t} (omega arith) (omega arith) in (le-div_iff_mul-le {k = t} ht).1 e
 
 -- ---- the places
 
@@ -87,10 +77,6 @@ from_fits from to z k n l h side = ⊎_elim (λ s. (omega arith, omega arith)) (
 pub from_clear : (from to z : ℕ) → (from ≡ to) ⊎ (from + z ≤ to) → (from ≡ to) ⊎ ((from + z ≤ to) ⊎ (to + z ≤ from))
 from_clear from to z side = ⊎_elim (λ s. inl s) (λ s. inr (inl s)) side
 
--- where an empty stack's last state would be
-pub top_none : (base depth z : ℕ) → depth ≡ 0 → base ≡ base + (depth - 1) * z
-top_none base depth z e = rw e (omega arith)
-
 -- the next place of a stack, and its last one
 pub next_place : (base depth z : ℕ) → (base + (depth - 1) * z ≡ base + depth * z) ⊎ (base + (depth - 1) * z + z ≤ base + depth * z)
 next_place base depth z = elim (le_or_lt 1 depth) [
@@ -113,11 +99,11 @@ state_below p s = mul-le-mul {n₁ = p.rows} {m₁ = row_size p} {n₂ = 1024} {
 pub states_below : (p : Plan) (n : ℕ) → Sound p → n ≤ 64 → n * state_size p ≤ 603979776
 states_below p n s h = mul-le-mul {n₁ = n} {m₁ = state_size p} {n₂ = 64} {m₂ = 9437184} h (state_below p s)
 
--- the states from first below past, made in the place of the one before
-pub record RunFrom (p : Plan) (first past : ℕ) (old new : List ℕ) (to : ℕ) : Type 0 where
-  pub is : (keys : ℕ → ℕ) (f : ℕ → ℕ → ℕ → ℕ → ℕ) → KeysAre old p keys → Sequence p keys past f → Holds old to p (first - 1) (f (first - 1)) →
-      Holds new to p (past - 1) (f (past - 1))
-  pub apart : Apart old new to (to + state_size p)
+-- how far a run of states from first has come: nothing is made yet, or the states below e are, the last of them at `to`; the one before e stands at
+-- `before`
+abbrev pub Running : (p : Plan) (first e : ℕ) (old new : List ℕ) (from to before : ℕ) → Type 0
+Running p first e old new from to before =
+    ((e ≡ first) × (new ≡ old) × (before ≡ from)) ⊎ ((before ≡ to) × RunOn p first e old new from to)
 
 -- a stack on the way to the one whose last state is the wanted one
 pub record Fetching (p : Plan) (s : Stack) (depth want : ℕ) (old marks new marks' : List ℕ) : Type 0 where
@@ -200,12 +186,13 @@ module _ (p : Plan) (sound : Sound p) where
       subst (λ (n : ℕ). Holds new to p n (f n)) (let w : e + 1 - 1 ≡ e = omega arith in w)
       (made_all old new keys states e (e + 1) from to f (omega arith) (omega arith) a k s last)
 
-  pub run_none : (first to : ℕ) (work : List ℕ) → RunFrom p first first work work to
-  run_none first to work = record { is = λ keys f k s h. h; apart = apart_none _ _ _ }
+  run_first : (first n from to : ℕ) (old new : List ℕ) → n ≤ 65536 → Advanced p first n old new from to → RunOn p first n old new from to
+  run_first first n from to old new l a =
+      record { is = λ keys f k s last. made_all old new keys n first n from to f l (omega arith) a k s last; apart = a.apart }
 
-  pub run_more : (first e n to : ℕ) (old mid new : List ℕ) → e < n → n ≤ 65536 → keys_size p ≤ to → RunFrom p first e old mid to →
-      Advanced p e n mid new to to → RunFrom p first n old new to
-  run_more first e n to old mid new o l clear r a =
+  run_next : (first e n from to : ℕ) (old mid new : List ℕ) → e ≤ n → n ≤ 65536 → keys_size p ≤ to → RunOn p first e old mid from to →
+      Advanced p e n mid new to to → RunOn p first n old new from to
+  run_next first e n from to old mid new o l clear r a =
       record {
         is = λ keys f k s h.
             let before = r.is keys f k (fewer keys n e f (omega arith) s) h in
@@ -213,23 +200,14 @@ module _ (p : Plan) (sound : Sound p) where
         apart = apart_then old mid new to (to + z) r.apart a.apart;
       }
 
-  pub run_all : (first mark past e from to : ℕ) (old mid new : List ℕ) → mark ≤ past → past ≤ 1024 → keys_size p ≤ to → e ≡ past →
-      Advanced p first mark old mid from to → RunFrom p mark e mid new to → RunOn p first past old new from to
-  run_all first mark past e from to old mid new o l clear w a r =
-      let r' = subst (λ (n : ℕ). RunFrom p mark n mid new to) w r in
-      record {
-        is = λ keys f k s last.
-            r'.is keys f (keys_apart old mid keys to (to + z) a.apart clear k) s
-            (made_all old mid keys past first mark from to f (omega arith) o a k s last);
-        apart = apart_then old mid new to (to + z) a.apart r'.apart;
-      }
+  -- the next states of a run, of the one before them
+  pub run_more : (first e n from to before : ℕ) (old mid new : List ℕ) → e ≤ n → n ≤ 65536 → keys_size p ≤ to →
+      Running p first e old mid from to before → Advanced p e n mid new before to → RunOn p first n old new from to
+  run_more first e n from to before old mid new o l clear r a =
+      ⊎_elim (λ s. run_first first n from to old new l (rw (s.0, s.1, s.2) at a))
+      (λ s. run_next first e n from to old mid new o l clear s.1 (rw s.0 at a)) r
 
   -- ---- the stack
-
-  pub stacked_fewer : (work marks : List ℕ) (base depth d : ℕ) (f : ℕ → ℕ → ℕ → ℕ → ℕ) → Stacked work marks base p f depth → d ≤ depth →
-      Stacked work marks base p f d
-  stacked_fewer work marks base depth d f h l =
-      record { marked = λ t k. h.marked t (omega arith); few = λ t k. h.few t (omega arith); holds = λ t k. h.holds t (omega arith) }
 
   -- places after the stack's change
   pub stacked_apart : (old new marks : List ℕ) (base depth lo hi : ℕ) (f : ℕ → ℕ → ℕ → ℕ → ℕ) → Apart old new lo hi → base + depth * z ≤ lo →
@@ -286,10 +264,6 @@ module _ (p : Plan) (sound : Sound p) where
       }
 
   -- ---- on the way to the wanted state
-
-  pub fetch_none : (s : Stack) (depth want : ℕ) (work marks : List ℕ) → depth ≤ s.depth → Fetching p s depth want work marks work marks
-  fetch_none s depth want work marks l =
-      record { is = λ keys f k q stack. stacked_fewer work marks s.base s.depth depth f stack l; apart = apart_none _ _ _; len = refl }
 
   pub fetch_more : (s : Stack) (d want next : ℕ) (old marks mid marks₁ new marks₂ : List ℕ) → d < s.places → next ≤ want → keys_size p ≤ s.base →
       Fetching p s d want old marks mid marks₁ → Pushed p s.base d next mid marks₁ new marks₂ → Fetching p s (d + 1) want old marks new marks₂

@@ -1,15 +1,16 @@
 // States are wanted from the last back, and a state cannot be undone. So a stack of earlier states is
 // kept in the work buffer, and a state is made again from the nearest one before it; the fewer places
 // are left, the fewer states are kept on the way. The last `spare` states before the wanted one need not be
-// kept, where they can be made at once with it.
-ghost use Rattle.std.specs.Prelude.{◌≡◌, true, ◌⊎◌, ◌+◌, ◌-◌, ◌*◌, ◌≤◌, ◌<◌, min, length};
+// kept, where they can be made at once with it. That `held` has room stands in three contracts by hand: a
+// type that knew it would hold the slice, which is lent on at each call, or its length beside it, and that
+// would be one more fact to say.
+ghost use Rattle.std.specs.Prelude.{◌≡◌, ◌⊎◌, ◌+◌, ◌-◌, ◌*◌, ◌≤◌, ◌<◌, MatchOption, length};
 ghost use Rattle.plans.specs.Plans.{state_size, keys_size, half_of, half_with};
-ghost use Rattle.plans.specs.Forms.{well_formed};
 ghost use Rattle.stacks.specs.Doors.{linked_at_once};
 ghost use Rattle.stacks.specs.Stacks.{StackFits, RunOn, Pushed, Fetched, last_mark};
 
 use crate::taken::advance;
-use plans::{MARGIN, Plan};
+use plans::Followed;
 use states::Stretch;
 
 // Where the stack begins in the work buffer, for how many states it has room, and how many it has.
@@ -20,11 +21,12 @@ pub struct Stack {
     pub depth: usize,
 }
 
-// The lesser of two.
-fn lesser(a: usize, b: usize) -> usize
-    ensures { result ≡ min a b }
+// Where the state t of a stack begins, counted from 0, if the stack begins at `base`.
+pub(crate) fn place_of(followed: Followed, base: usize, t: usize) -> usize
+    requires { (t ≤ 64) × (base < 16777216) }
+    ensures { result ≡ base + t * state_size followed.plan }
 {
-    if a < b { a } else { b }
+    base + t * followed.state_size()
 }
 
 // How many states on the next one is kept, on the way to one `far` states on, with this many places
@@ -38,15 +40,13 @@ fn stride(places: usize, far: usize) -> usize
 {
     let mut last = 0;
     let mut c = 1;
-    let mut t = 1;
-    while t < 1024 {
+    for t in 1..1024 {
         let more = c * (places + t) / t;
         if more > far {
-            return lesser(c, far + 1 - (c - last));
+            return c.min(far + 1 - (c - last));
         }
         last = c;
         c = more;
-        t += 1;
     }
     c
 }
@@ -57,90 +57,72 @@ fn stride_with(places: usize, far: usize, spare: usize) -> usize
     requires { (1 ≤ places) × (places ≤ 64) × (1 ≤ far) × (far ≤ 1024) × (spare ≤ 1024) }
     ensures { (1 ≤ result) × (result ≤ far) × (places ≡ 1 → far ≤ result + spare) }
 {
-    if spare == 0 {
-        return if places == 1 {
-            far
-        } else {
-            stride(places, far)
-        };
-    }
-    let next = stride(places + 1, far);
-    if places > 1 {
-        return next;
-    }
-    if next + spare < far {
-        far - spare
-    } else {
-        next
+    match (places, spare) {
+        (1, 0) => far,
+        (_, 0) => stride(places, far),
+        (1, _) => stride(2, far).max(far.saturating_sub(spare)),
+        _ => stride(places + 1, far),
     }
 }
 
-// How many states are made with the next one that is kept on the way to `want`; those that are made
-// already where none is to be kept.
-fn next_mark(places: usize, made: usize, want: usize, spare: usize) -> usize
+// How many states are made with the next one that is kept on the way to `want`; `None` where none is to be
+// kept.
+fn next_mark(places: usize, made: usize, want: usize, spare: usize) -> Option<usize>
     requires { (places ≤ 64) × (made ≤ want) × (want ≤ 1024) × (spare ≤ 1024) × (places ≡ 0 → want ≤ made + spare) }
-    ensures { (made ≤ result) × (result ≤ want) × (result ≡ made → want ≤ made + spare) × (made < result → 1 ≤ places) × (made < result → places ≡ 1 → want ≤ result + spare) }
+    ensures { MatchOption result (want ≤ made + spare) (λ next. (made < next) × (next ≤ want) × (1 ≤ places) × (places ≡ 1 → want ≤ next + spare)) }
 {
-    if made >= want {
-        return made;
-    }
-    if places == 0 {
-        return made;
+    if made == want || places == 0 {
+        return None;
     }
     let next = made + stride_with(places, want - made, spare);
-    if next < want {
-        return next;
+    if next < want || made + spare < want {
+        Some(next)
+    } else {
+        None
     }
-    if want <= made + spare { made } else { next }
 }
 
 // The states later than `want` are dropped; so is the last one of a full stack that is too early, to make
 // room for another.
+#[tactic(auto, using(crate::proofs::StackLaws::last_none, crate::proofs::StackLaws::last_of))]
 fn drop_later(marks: &[usize], places: usize, depth: usize, want: usize, spare: usize) -> usize
     requires { (1 ≤ places) × (depth ≤ places) × (depth ≤ length marks.now) × (spare ≤ 1024) }
     ensures { (result ≤ depth) × (last_mark marks.now result ≤ want) × (result ≡ places → want ≤ last_mark marks.now result + spare) }
 {
-    let mut d = depth;
-    while d > 0 {
+    for d in (1..=depth).rev() {
         let last = marks[d - 1];
-        if last <= want {
-            if d < places {
-                return d;
-            }
-            if want - last <= spare {
-                return d;
-            }
+        if last <= want && (d < places || want - last <= spare) {
+            return d;
         }
-        d -= 1;
     }
     0
 }
 
 // How many states are made with the last one of the stack; none where the stack is empty, or deeper than it
 // has marks.
+#[tactic(auto, using(crate::proofs::StackLaws::last_none, crate::proofs::StackLaws::last_of))]
 pub fn last_mark(marks: &[usize], depth: usize) -> usize
     ensures { result ≡ last_mark marks.now depth }
 {
     if depth == 0 {
-        return 0;
+        0
+    } else {
+        marks.get(depth - 1).copied().unwrap_or(0)
     }
-    if depth > marks.len() {
-        return 0;
-    }
-    marks[depth - 1]
 }
 
 // How many states are made at once with so many held numbers, up to six: more bring nothing, since the held
 // rows no longer lie near the processor. States that are not linked have nothing in common.
-pub(crate) fn at_once(plan: Plan, held: usize) -> usize
-    requires { (well_formed plan ≡ true) × (half_of plan + half_of plan ≤ held) }
-    ensures value { result ≡ linked_at_once plan held }
-    ensures lower_bound { (1 ≤ result) × (result ≤ 6) × (half_with plan (result - 1) + half_with plan (result - 1) ≤ held) }
+pub(crate) fn at_once(followed: Followed, held: usize) -> usize
+    requires { half_of followed.plan + half_of followed.plan ≤ held }
+    ensures value { result ≡ linked_at_once followed.plan held }
+    ensures lower_bound { (1 ≤ result) × (result ≤ 6) × (half_with followed.plan (result - 1) + half_with followed.plan (result - 1) ≤ held) }
 {
-    if !plan.linked {
-        return 1;
+    if followed.plan.linked {
+        (held / 2 / followed.block_size() - 1).min(6)
+    } else {
+        1
     }
-    lesser(held / 2 / (plan.planes * (plan.across + MARGIN)) - 1, 6)
 }
 
 // The states from number `first` below `past`, as many at once as can be, the first of them from the one at
@@ -148,45 +130,36 @@ pub(crate) fn at_once(plan: Plan, held: usize) -> usize
 fn run_on(
     work: &mut [u16],
     held: &mut [u16],
-    plan: Plan,
+    followed: Followed,
     first: usize,
     past: usize,
     from: usize,
     to: usize,
 )
-    requires plan_value { well_formed plan ≡ true }
-    requires first_lt_past { (first < past) × (past ≤ 1024) × (keys_size plan ≤ from) × (to + state_size plan ≤ length work.old) }
-    requires fact { (from ≡ to) ⊎ (from + state_size plan ≤ to) }
-    requires plan_in_bounds { (half_of plan + half_of plan ≤ length held.old) × (length held.old ≤ 40000) }
-    ensures run_on { RunOn plan first past work.old work.new from to }
+    requires first_lt_past { (first < past) × (past ≤ 1024) × (keys_size followed.plan ≤ from) × (to + state_size followed.plan ≤ length work.old) }
+    requires fact { (from ≡ to) ⊎ (from + state_size followed.plan ≤ to) }
+    requires plan_in_bounds { (half_of followed.plan + half_of followed.plan ≤ length held.old) × (length held.old ≤ 40000) }
+    ensures run_on { RunOn followed.plan first past work.old work.new from to }
     ensures held_len_unchanged { length held.new ≡ length held.old }
 {
-    let count = at_once(plan, held.len());
-    let mut e = lesser(first + count, past);
-    let start = Stretch {
-        first: first,
-        past: e,
-    };
-    advance(work, held, plan, start, from, to);
-    while e < past {
+    let count = at_once(followed, held.len());
+    let mut before = from;
+    for e in (first..past).step_by(count) {
         let next = Stretch {
             first: e,
-            past: lesser(e + count, past),
+            past: past.min(e + count),
         };
-        advance(work, held, plan, next, to, to);
-        e = next.past;
+        advance(work, held, followed, next, before, to);
+        before = to;
     }
 }
 
 // Where the last state of the stack begins; where the stack does, if it is empty.
-pub(crate) fn top_of(plan: Plan, stack: Stack) -> usize
-    requires { (well_formed plan ≡ true) × (stack.depth ≤ 64) × (stack.base < 16777216) }
-    ensures { result ≡ stack.base + (stack.depth - 1) * state_size plan }
+pub(crate) fn top_of(followed: Followed, stack: Stack) -> usize
+    requires { (stack.depth ≤ 64) × (stack.base < 16777216) }
+    ensures { result ≡ stack.base + (stack.depth - 1) * state_size followed.plan }
 {
-    if stack.depth == 0 {
-        return stack.base;
-    }
-    stack.base + (stack.depth - 1) * (plan.rows * (plan.planes * plan.across))
+    place_of(followed, stack.base, stack.depth.saturating_sub(1))
 }
 
 // One state more on the stack, the one of number `past` less one.
@@ -194,24 +167,22 @@ fn push(
     work: &mut [u16],
     marks: &mut [usize],
     held: &mut [u16],
-    plan: Plan,
+    followed: Followed,
     stack: Stack,
     past: usize,
 )
-    requires plan_value { well_formed plan ≡ true }
-    requires stack_fits { (StackFits plan stack (length work.old) (length marks.old)) × (stack.depth < stack.places) × (past ≤ 1024) }
+    requires stack_fits { (StackFits followed.plan stack (length work.old) (length marks.old)) × (stack.depth < stack.places) × (past ≤ 1024) }
     requires depth_bound { last_mark marks.old stack.depth < past }
-    requires plan_in_bounds { (half_of plan + half_of plan ≤ length held.old) × (length held.old ≤ 40000) }
-    ensures pushed { Pushed plan stack.base stack.depth past work.old marks.old work.new marks.new }
+    requires plan_in_bounds { (half_of followed.plan + half_of followed.plan ≤ length held.old) × (length held.old ≤ 40000) }
+    ensures pushed { Pushed followed.plan stack.base stack.depth past work.old marks.old work.new marks.new }
     ensures depth_after { last_mark marks.new (stack.depth + 1) ≡ past }
     ensures held_len_unchanged { length held.new ≡ length held.old }
 {
     let first = last_mark(marks, stack.depth);
-    let to = stack.base + stack.depth * (plan.rows * (plan.planes * plan.across));
-    let from = top_of(plan, stack);
-    run_on(work, held, plan, first, past, from, to);
-    let depth = stack.depth;
-    marks[depth] = past;
+    let to = place_of(followed, stack.base, stack.depth);
+    let from = top_of(followed, stack);
+    run_on(work, held, followed, first, past, from, to);
+    marks[stack.depth] = past;
 }
 
 // A stack with which so many states are made as are wanted, or up to `spare` fewer.
@@ -219,36 +190,24 @@ pub(crate) fn fetch(
     work: &mut [u16],
     marks: &mut [usize],
     held: &mut [u16],
-    plan: Plan,
+    followed: Followed,
     stack: Stack,
     want: usize,
     spare: usize,
 ) -> Stack
-    requires plan_value { well_formed plan ≡ true }
-    requires stack_fits { (StackFits plan stack (length work.old) (length marks.old)) × (want ≤ 1024) × (spare ≤ 1024) }
-    requires plan_in_bounds { (half_of plan + half_of plan ≤ length held.old) × (length held.old ≤ 40000) }
+    requires stack_fits { (StackFits followed.plan stack (length work.old) (length marks.old)) × (want ≤ 1024) × (spare ≤ 1024) }
+    requires plan_in_bounds { (half_of followed.plan + half_of followed.plan ≤ length held.old) × (length held.old ≤ 40000) }
     ensures base_value { (result.base ≡ stack.base) × (result.places ≡ stack.places) × (result.depth ≤ stack.places) }
-    ensures fetched { Fetched plan stack result.depth want spare work.old marks.old work.new marks.new }
+    ensures fetched { Fetched followed.plan stack result.depth want spare work.old marks.old work.new marks.new }
     ensures held_len_unchanged { length held.new ≡ length held.old }
 {
     let places = stack.places;
     let mut depth = drop_later(marks, places, stack.depth, want, spare);
     let mut made = last_mark(marks, depth);
-    let mut next = next_mark(places - depth, made, want, spare);
-    while made < next {
-        let so_far = Stack {
-            base: stack.base,
-            places: places,
-            depth: depth,
-        };
-        push(work, marks, held, plan, so_far, next);
+    while let Some(next) = next_mark(places - depth, made, want, spare) {
+        push(work, marks, held, followed, Stack { depth, ..stack }, next);
         depth += 1;
         made = next;
-        next = next_mark(places - depth, made, want, spare);
     }
-    Stack {
-        base: stack.base,
-        places: stack.places,
-        depth: depth,
-    }
+    Stack { depth, ..stack }
 }

@@ -7,9 +7,9 @@ use mathlib.Core.List.{List}
 use native.Mathlib.Omega.{arith}
 use lib.ListN.{get_or}
 use Rattle.basics.proofs.Numbers.{le_or_lt, rows_fit}
-use Rattle.states.specs.Runs.{Between, Apart, TapsFit, greatest_at}
+use Rattle.states.specs.Runs.{Between, Apart, greatest_at}
 use Rattle.states.specs.Rows.{In, RowPut, TapsOf, BlendFits, Blent, layer_ahead, blended}
-use Rattle.states.proofs.PlaneLaws.{apart_then, plane_run, planes_none, planes_more, planes_ends}
+use Rattle.states.proofs.PlaneLaws.{apart_then, plane_run, planes_more, planes_ends}
 use Rattle.states.proofs.RowLaws.{row_put}
 
 -- ---- what fits
@@ -20,22 +20,6 @@ pub fits_before :
 fits_before planes pitch x y t0 t1 t2 to size now f l e =
     subst (λ (n : ℕ). BlendFits planes pitch y t0 t1 t2 to n) (sym e)
     (record { few = f.few; narrow = f.narrow; room = omega (arith, f.room); taps = f.taps; small = f.small })
-
--- the row of the only plane, and seven numbers more
-pub sole_fits : (pitch hi t0 t1 t2 to size : ℕ) → BlendFits 1 pitch hi t0 t1 t2 to size → TapsFit t0 t1 t2 to (hi + 7) size
-sole_fits pitch hi t0 t1 t2 to size f =
-    record {
-      clear0 = apart t0 f.taps.clear0;
-      clear1 = apart t1 f.taps.clear1;
-      clear2 = apart t2 f.taps.clear2;
-      in0 = omega (arith, f.room, f.taps.in0);
-      in1 = omega (arith, f.room, f.taps.in1);
-      in2 = omega (arith, f.room, f.taps.in2);
-      in_to = omega (arith, f.room, f.taps.in_to);
-    }
-  where
-    apart : (t : ℕ) → (t + 1 * pitch ≤ to + 1) ⊎ (to + 1 * pitch ≤ t + 1) → (t + (hi + 7) ≤ to) ⊎ (to + (hi + 7) ≤ t)
-    apart t o = elim o [ inl u ↦ inl (omega (arith, f.room)) | inr u ↦ inr (omega (arith, f.room)) ]
 
 module _ (planes pitch t0 t1 t2 to size : ℕ) (taps : TapsOf (planes * pitch) t0 t1 t2 to size) where
   in_block : (j : ℕ) → j < planes → j * pitch + pitch ≤ planes * pitch
@@ -138,45 +122,12 @@ pub layer_none : (held : List ℕ) (pitch t0 t1 t2 x : ℕ) → 0 ≡ layer_ahea
 unfolding layer_ahead
 layer_none held pitch t0 t1 t2 x = refl
 
--- the lowest plane, below which there is nothing
-pub blended_lowest :
-    (held : List ℕ) (pitch t0 t1 t2 : ℕ) (key : ℕ → ℕ) (x v k g : ℕ) →
-    v ≡ min k g → k ≡ key x → g ≡ layer_ahead held pitch t0 t1 t2 1 x → v ≡ blended held pitch t0 t1 t2 key 0 x
-unfolding layer_ahead
-blended_lowest held pitch t0 t1 t2 key x v k g ev ek eg = ev ∙ rw (ek, eg) (omega arith)
-
--- a higher one
+-- a plane's number, by that of the plane below
 pub blended_next :
     (held : List ℕ) (pitch t0 t1 t2 : ℕ) (key : ℕ → ℕ) (j x v w k g b : ℕ) →
     v ≡ max w b → w ≡ min k g → k ≡ key x → g ≡ layer_ahead held pitch t0 t1 t2 (suc j) x → b ≡ layer_ahead held pitch t0 t1 t2 j x →
     v ≡ blended held pitch t0 t1 t2 key j x
 blended_next held pitch t0 t1 t2 key j x v w k g b ev ew ek eg eb = ev ∙ rw (ew, ek, eg, eb)
-
--- ---- the only plane
-
-pub sole_made :
-    (keys old new : List ℕ) (at pitch t0 t1 t2 to size lo hi past : ℕ) →
-    BlendFits 1 pitch hi t0 t1 t2 to size →
-    past ≤ hi + 7 →
-    Between (λ k. min (get_or keys (at + (k - to)) 0) (greatest_at old t0 t1 t2 (k - to))) old new (to + lo) (to + past) →
-    Blent old new (λ y. get_or keys (at + y) 0) 1 pitch t0 t1 t2 to lo past
-unfolding layer_ahead
-sole_made keys old new at pitch t0 t1 t2 to size lo hi past f l b =
-    planes_more (In (lo + 1) (past + 1)) _ old old new (to - 1) pitch 0 (λ X p. omega (arith, p, f.room)) (planes_none _ _ old (to - 1) pitch)
-    (plane_run _ (λ X. blended old pitch t0 t1 t2 (λ y. get_or keys (at + y) 0) 0 (X - 1)) old new (to - 1) (0 * pitch) pitch (lo + 1) (past + 1)
-    (to + lo) (to + past) b (omega (arith, f.taps.some)) (omega (arith, f.taps.some)) (omega (arith, f.room)) here)
-  where
-    here :
-        (X : ℕ) → lo + 1 ≤ X → X < past + 1 →
-        min (get_or keys (at + (to - 1 + (0 * pitch + X) - to)) 0) (greatest_at old t0 t1 t2 (to - 1 + (0 * pitch + X) - to)) ≡
-        blended old pitch t0 t1 t2 (λ y. get_or keys (at + y) 0) 0 (X - 1)
-    here X p q =
-        let y : ℕ = X - 1 in
-        let d : to - 1 + (0 * pitch + X) - to ≡ y = omega (arith, f.taps.some) in
-        let e0 : t0 + 0 * pitch ≡ t0 = omega arith in
-        let e1 : t1 + 0 * pitch ≡ t1 = omega arith in
-        let e2 : t2 + 0 * pitch ≡ t2 = omega arith in
-        rw (d, e0, e1, e2) (omega arith)
 
 -- ---- the row, by whichever way it was made
 

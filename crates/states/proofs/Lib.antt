@@ -1,4 +1,5 @@
 pub mod TurnedLaws
+pub mod PartLaws
 pub mod RunLaws
 pub mod PlaneLaws
 pub mod RowLaws

@@ -1,8 +1,8 @@
 -- The room that rows take, and where in it a number is: what `omega` is given where products occur.
 use Prim.Native.Nat.{ℕ, zero, suc, ◌+◌, ◌-◌, ◌*◌, ◌≤◌, ◌<◌}
-use mathlib.Core.Path.{◌≡◌, refl, ap, ◌∙◌, subst}
+use mathlib.Core.Path.{◌≡◌, refl, subst}
 use mathlib.Core.Bool.{Bool, true, false}
-use native.Mathlib.Nat.{mul-le-mul, add-mul}
+use native.Mathlib.Nat.{mul-le-mul}
 use native.Mathlib.Omega.{arith}
 use Rattle.basics.proofs.Numbers.{rows_fit}
 use Rattle.plans.specs.Plans.{Sound, rows_in, row_lo, row_hi, row_at, keys_size, half_of, half_with, block_of, row_size, state_size}
@@ -11,23 +11,12 @@ use Rattle.plans.specs.declared.plan.Plan.{Plan}
 use Rattle.plans.specs.declared.plan.Row.{Row}
 use Rattle.plans.proofs.PlanSizes.{rows_few}
 
-pub block_small : (n a : ℕ) → n ≤ 9 → a ≤ 1024 → n * (a + 16) ≤ 9360
-block_small n a hn ha = mul-le-mul {n₁ = n} {m₁ = a + 16} {n₂ = 9} {m₂ = 1040} hn (omega arith)
-
-pub blocks_small : (more n a : ℕ) → more < 65536 → n ≤ 9 → a ≤ 1024 → more * (n * (a + 16)) ≤ 613407600
-blocks_small more n a hm hn ha =
-    mul-le-mul {n₁ = more} {m₁ = n * (a + 16)} {n₂ = 65535} {m₂ = 9360} (omega arith) (block_small n a hn ha)
-
 pub row_small : (n a : ℕ) → n ≤ 9 → a ≤ 1024 → n * a ≤ 9216
 row_small n a hn ha = mul-le-mul {n₁ = n} {m₁ = a} {n₂ = 9} {m₂ = 1024} hn ha
 
 -- place X of run j lies in the room of n runs
 pub in_block : (j n w X : ℕ) → j < n → X < w → j * w + X < n * w
 in_block j n w X h l = omega (arith, rows_fit j 1 n w (omega arith))
-
--- counted from the last of r rows, row m has one row less after it than there are from it on
-pub row_back : (r m w : ℕ) → m < r → (r - m) * w ≡ (r - (m + 1)) * w + w
-row_back r m w h = ap (λ (q : ℕ). q * w) (let e : r - m ≡ r - (m + 1) + 1 = omega arith in e) ∙ omega (arith, add-mul (r - (m + 1)) 1 w)
 
 -- a half is one held row, or two where states are linked
 pub half_linked : (p : Plan) → p.linked ≡ true → half_of p ≡ block_of p + block_of p

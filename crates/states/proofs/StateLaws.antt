@@ -14,14 +14,13 @@ use Rattle.plans.specs.Plans.{Sound, rows_in, row_lo, row_hi, row_at, starts_at,
 use Rattle.plans.specs.Plans.{row_size, state_size, keys_size, pitch_of, block_of, half_of, half_with}
 use Rattle.states.specs.Rows.{gate, RowHeld, RowStored, RowJoined}
 use Rattle.states.specs.States.{row_before, ahead, Grown, Chain, LastHolds, Advanced, StateJoined, OtherHolds, Joined}
-use Rattle.states.specs.Holding.{Halves, LastFrom, AllReady}
+use Rattle.states.specs.Holding.{Halves, LastFrom, AllReady, AllRows}
 use Rattle.plans.specs.declared.plan.Plan.{Plan}
 use Rattle.states.specs.declared.state.Slots.{Slots}
 use Rattle.theory.specs.BestWalks.{alone}
 use Rattle.plans.proofs.PlanSizes.{rows_few}
 use Rattle.states.proofs.SizeLaws.{in_block, half_linked, half_room, half_further, row_within}
 use Rattle.states.proofs.HoldingLaws.{held_by}
-use Rattle.states.proofs.StretchLaws.{Turn}
 
 -- ---- what is read of the work buffer
 
@@ -117,7 +116,7 @@ making_none p first past work from old held half b eh =
 
 -- one row more
 pub making_more : (p : Plan) (first past m : ℕ) (old work : List ℕ) (from : ℕ) (s : Slots) (held new : List ℕ) → Sound p → first < past → past ≤ 65536 →
-    Kept p m old work from → Making p first past m old from held s.was → Turn p first past m work from s held new →
+    Kept p m old work from → Making p first past m old from held s.was → AllRows p first past m work from s held new →
     Making p first past (suc m) old from new s.now
 making_more p first past m old work from s held new sound l few kept making next =
     record {

@@ -7,12 +7,12 @@ use mathlib.Core.Logic.{◌⊎◌, inl, inr, ⊎_elim}
 use mathlib.Core.List.{List}
 use native.Mathlib.Nat.{add-mul}
 use native.Mathlib.Omega.{arith}
-use lib.ListN.{length, get_or}
+use lib.ListN.{get_or}
 use Rattle.basics.proofs.Numbers.{le_or_lt, rows_fit}
 use Rattle.states.specs.Runs.{Apart}
 use Rattle.plans.specs.Plans.{Sound, rows_in, seen_hi, pitch_of, block_of, half_of, half_with}
 use Rattle.states.specs.States.{row_before, Chain}
-use Rattle.states.specs.Holding.{Slotted, Halves, LastFrom, LastHeld, LastRow, Ready, AllReady, MadeRow, NextRows}
+use Rattle.states.specs.Holding.{Slotted, Halves, LastHeld, LastRow, Ready, AllReady, MadeRow, NextRows, AllRows}
 use Rattle.plans.specs.declared.plan.Plan.{Plan}
 use Rattle.states.specs.declared.state.Slots.{Slots}
 use Rattle.states.proofs.SizeLaws.{in_block, half_linked, half_room, half_most, half_further, row_earlier}
@@ -173,17 +173,11 @@ module _ (p : Plan) (first past m : ℕ) (work : List ℕ) (s : Slots) (old : Li
 
 -- ---- a turn
 
--- row m of all states has been made, that of the state before them being read from the work buffer
-pub record Turn (p : Plan) (first past m : ℕ) (work : List ℕ) (from : ℕ) (s : Slots) (old new : List ℕ) : Type 0 where
-  pub is : (f : ℕ → ℕ → ℕ → ℕ → ℕ) → LastFrom p first m work from (f (first - 1)) → Chain p first past (λ q. get_or work q 0) f →
-      AllReady p first past m old s.was f → AllReady p first past (suc m) new s.now f
-  pub len : length new ≡ length old
-
 -- it comes beside the place of the first one's row, and the rows of the number before stay
 pub turn : (p : Plan) (first past m : ℕ) (work : List ℕ) (from : ℕ) (s : Slots) (old mid new : List ℕ) (half slot size : ℕ) → Sound p → first < past →
     past ≤ 65536 → m < rows_in p (past - 1) → Halves p (past - 1 - first) s size → half ≡ half_with p (past - 1 - first) → slot ≡ s.now + (half - block_of p) →
     LastRow p first m work from mid slot → Apart old mid slot (slot + (half_of p - block_of p)) → NextRows p first past m work s mid new →
-    Turn p first past m work from s old new
+    AllRows p first past m work from s old new
 turn p first past m work from s old mid new half slot size sound l few hm halves eh es row a next =
     record {
       is = λ f stands chain ready.

@@ -60,3 +60,9 @@ pub record NextRows (p : Plan) (first past m : ℕ) (work : List ℕ) (s : Slots
   pub is : (f : ℕ → ℕ → ℕ → ℕ → ℕ) → (p.linked ≡ true → LastHeld p first (suc m) old (s.now + (past - first) * block_of p) (f (first - 1))) →
       Chain p first past (λ q. get_or work q 0) f → AllReady p first past m old s.was f → AllReady p first past (suc m) new s.now f
   pub len : length new ≡ length old
+
+-- row m of all states has been made, that of the state before them being read from the work buffer
+pub record AllRows (p : Plan) (first past m : ℕ) (work : List ℕ) (from : ℕ) (s : Slots) (old new : List ℕ) : Type 0 where
+  pub is : (f : ℕ → ℕ → ℕ → ℕ → ℕ) → LastFrom p first m work from (f (first - 1)) → Chain p first past (λ q. get_or work q 0) f →
+      AllReady p first past m old s.was f → AllReady p first past (suc m) new s.now f
+  pub len : length new ≡ length old

@@ -1,5 +1,5 @@
 -- What the loops do to a list of numbers. These definitions serve contracts inside the engine only: no public contract cites them.
-use Rattle.std.specs.Prelude.{ℕ, ◌+◌, ◌≤◌, ◌<◌, max, ◌≡◌, ◌⊎◌, List, length, get_or}
+use Rattle.std.specs.Prelude.{ℕ, ◌+◌, ◌≤◌, ◌<◌, max, ◌≡◌, List, length, get_or}
 
 -- new is f k at the places k from lo below hi, and old elsewhere
 pub record Between (f : ℕ → ℕ) (old new : List ℕ) (lo hi : ℕ) : Type 0 where
@@ -17,13 +17,3 @@ pub record Apart (old new : List ℕ) (lo hi : ℕ) : Type 0 where
 -- the greatest of the numbers at three places, x further on
 abbrev pub greatest_at : List ℕ → ℕ → ℕ → ℕ → ℕ → ℕ
 greatest_at held t0 t1 t2 x = max (max (get_or held (t0 + x) 0) (get_or held (t1 + x) 0)) (get_or held (t2 + x) 0)
-
--- three runs of n numbers that are read, and one that is written and lies apart from them, all in a list of this length
-pub record TapsFit (t0 t1 t2 to n size : ℕ) : Type 0 where
-  pub clear0 : (t0 + n ≤ to) ⊎ (to + n ≤ t0)
-  pub clear1 : (t1 + n ≤ to) ⊎ (to + n ≤ t1)
-  pub clear2 : (t2 + n ≤ to) ⊎ (to + n ≤ t2)
-  pub in0 : t0 + n ≤ size
-  pub in1 : t1 + n ≤ size
-  pub in2 : t2 + n ≤ size
-  pub in_to : to + n ≤ size

@@ -1,15 +1,15 @@
 // The doors: states made, or made and the last joined with another, where the plan can be followed and what
-// is lent has room; a run filled, where it has room. Else nothing is done.
+// is lent has room; a run filled, where it has room. Else nothing is done. A door answers whether it was taken:
+// no value stands beside that, and there is one reason alone why not.
 ghost use Rattle.std.specs.Prelude.{◌≡◌, true, ℕ, ◌+◌, ◌<◌, leb, length};
 ghost use Rattle.basics.specs.Cases.{EitherBy};
-ghost use Rattle.plans.specs.Forms.{well_formed};
 ghost use Rattle.states.specs.Runs.{Between};
 ghost use Rattle.states.specs.States.{Advanced, Joined};
 ghost use Rattle.states.specs.Doors.{held_fits, can_hold, can_make, state_fits, same_or_apart, advances, joins};
 
 use crate::runs::fill_run;
-use crate::state::{Stretch, half_with, make_joined, make_states};
-use plans::Plan;
+use crate::state::{Batch, Stretch, half_with, make_joined, make_states};
+use plans::{Followed, Plan};
 
 // Whether n numbers from `at` on lie within so many.
 pub fn lies_in(at: usize, n: usize, len: usize) -> bool
@@ -22,11 +22,11 @@ pub fn lies_in(at: usize, n: usize, len: usize) -> bool
 }
 
 // Whether the held rows find room, where `more` states are made at once with the first.
-fn held_fits(plan: Plan, more: usize, held: usize) -> bool
-    requires { (well_formed plan ≡ true) × (more < 65536) }
-    ensures { result ≡ held_fits plan more held }
+fn held_fits(followed: Followed, more: usize, held: usize) -> bool
+    requires { more < 65536 }
+    ensures { result ≡ held_fits followed.plan more held }
 {
-    let half = half_with(plan, more);
+    let half = half_with(followed, more);
     if half + half > held {
         return false;
     }
@@ -40,45 +40,40 @@ pub fn can_hold(plan: Plan, held: usize) -> bool
     if !plans::is_well_formed(plan) {
         return false;
     }
-    held_fits(plan, 0, held)
+    held_fits(Followed { plan }, 0, held)
 }
 
-// Whether the plan can be followed, it has these states, and their held rows find room.
-fn can_make(plan: Plan, states: Stretch, held: usize) -> bool
-    ensures { result ≡ can_make plan states held }
+// Whether there are these states, and their held rows find room.
+fn can_make(followed: Followed, states: Stretch, held: usize) -> bool
+    ensures { result ≡ can_make followed.plan states held }
 {
-    if !plans::is_well_formed(plan) {
-        return false;
-    }
     if states.first >= states.past {
         return false;
     }
     if states.past > 65536 {
         return false;
     }
-    held_fits(plan, states.past - 1 - states.first, held)
+    held_fits(followed, states.past - 1 - states.first, held)
 }
 
 // Whether a state at this place finds room behind the keys.
-fn state_fits(plan: Plan, at: usize, work: usize) -> bool
-    requires { well_formed plan ≡ true }
-    ensures { result ≡ state_fits plan at work }
+fn state_fits(followed: Followed, at: usize, work: usize) -> bool
+    ensures { result ≡ state_fits followed.plan at work }
 {
-    if plan.lines * plan.across > at {
+    if followed.keys_size() > at {
         return false;
     }
-    lies_in(at, plan.rows * (plan.planes * plan.across), work)
+    lies_in(at, followed.state_size(), work)
 }
 
 // Whether the two places are the same or their states do not overlap.
-fn same_or_apart(plan: Plan, from: usize, to: usize) -> bool
-    requires { well_formed plan ≡ true }
-    ensures { result ≡ same_or_apart plan from to }
+fn same_or_apart(followed: Followed, from: usize, to: usize) -> bool
+    ensures { result ≡ same_or_apart followed.plan from to }
 {
     if from == to {
         return true;
     }
-    let size = plan.rows * (plan.planes * plan.across);
+    let size = followed.state_size();
     if lies_in(from, size, to) {
         return true;
     }
@@ -87,25 +82,25 @@ fn same_or_apart(plan: Plan, from: usize, to: usize) -> bool
 
 // Whether what states are made of and where the last comes to fit.
 fn can_advance(
-    plan: Plan,
+    followed: Followed,
     states: Stretch,
     from: usize,
     to: usize,
     work: usize,
     held: usize,
 ) -> bool
-    ensures { result ≡ advances plan states from to work held }
+    ensures { result ≡ advances followed.plan states from to work held }
 {
-    if !can_make(plan, states, held) {
+    if !can_make(followed, states, held) {
         return false;
     }
-    if !state_fits(plan, from, work) {
+    if !state_fits(followed, from, work) {
         return false;
     }
-    if !state_fits(plan, to, work) {
+    if !state_fits(followed, to, work) {
         return false;
     }
-    same_or_apart(plan, from, to)
+    same_or_apart(followed, from, to)
 }
 
 // States from the one before at `from`, the last of them at `to`, which may be the same place; the keys
@@ -122,16 +117,20 @@ pub fn advance(
     ensures either { EitherBy result (Advanced plan states.first states.past work.old work.new from to) (work.new ≡ work.old) }
     ensures held_len_unchanged { length held.new ≡ length held.old }
 {
-    if !can_advance(plan, states, from, to, work.len(), held.len()) {
+    if !plans::is_well_formed(plan) {
         return false;
     }
-    make_states(work, held, plan, states, from, to);
+    let followed = Followed { plan };
+    if !can_advance(followed, states, from, to, work.len(), held.len()) {
+        return false;
+    }
+    make_states(work, held, followed, Batch { states }, from, to);
     true
 }
 
 // Whether the last of some states can be joined with the one at `ends`.
 fn can_join(
-    plan: Plan,
+    followed: Followed,
     states: Stretch,
     from: usize,
     ends: usize,
@@ -139,21 +138,21 @@ fn can_join(
     work: usize,
     held: usize,
 ) -> bool
-    ensures { result ≡ joins plan states from ends best work held }
+    ensures { result ≡ joins followed.plan states from ends best work held }
 {
-    if !can_make(plan, states, held) {
+    if !can_make(followed, states, held) {
         return false;
     }
-    if plans::rows_in(plan, states.past - 1) != plan.rows {
+    if plans::rows_in(followed.plan, states.past - 1) != followed.plan.rows {
         return false;
     }
-    if !state_fits(plan, from, work) {
+    if !state_fits(followed, from, work) {
         return false;
     }
-    if !state_fits(plan, ends, work) {
+    if !state_fits(followed, ends, work) {
         return false;
     }
-    plan.lines * plan.across <= best
+    followed.keys_size() <= best
 }
 
 // States from the one before at `from`, the last of which is joined with the state at `ends`: the best of
@@ -172,10 +171,22 @@ pub fn advance_joined(
     ensures held_len_unchanged { length held.new ≡ length held.old }
     ensures best_len_unchanged { length best.new ≡ length best.old }
 {
-    if !can_join(plan, states, from, ends, best.len(), work.len(), held.len()) {
+    if !plans::is_well_formed(plan) {
         return false;
     }
-    make_joined(best, work, held, plan, states, from, ends);
+    let followed = Followed { plan };
+    if !can_join(
+        followed,
+        states,
+        from,
+        ends,
+        best.len(),
+        work.len(),
+        held.len(),
+    ) {
+        return false;
+    }
+    make_joined(best, work, held, followed, Batch { states }, from, ends);
     true
 }
 

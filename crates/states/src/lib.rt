@@ -21,5 +21,4 @@ mod runs;
 mod state;
 
 pub use doors::{advance, advance_joined, can_hold, fill, lies_in};
-pub use runs::{max2, min2};
 pub use state::Stretch;

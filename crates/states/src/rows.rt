@@ -1,6 +1,9 @@
 // One row, with all its planes: held, made of held ones, put into a state, joined with one of another
 // state. A held row has pixel x at x + 1 of each plane, and a zero before and after its pixels; its numbers
-// are turned (runs.rt).
+// are turned (runs.rt). A row goes by the place where it begins and not as a slice: it is written into the
+// buffer that the rows it is made of lie in. That the row is one of the plan and that its place fits (RowOf,
+// SlotOf) stay clauses: a type would hold a copy of the plan for each row, and the buffer that is lent on at
+// each call.
 ghost use Rattle.std.specs.Prelude.{ℕ, ◌+◌, ◌-◌, ◌*◌, ◌≤◌, ◌<◌, length, get_or};
 ghost use Rattle.eights.specs.Turned.{numbers};
 ghost use Rattle.states.specs.Runs.{Apart};
@@ -19,13 +22,10 @@ fn guard(held: &mut [u16], slot: usize, plan: Plan, row: Row)
     ensures by_index { (f : ℕ → ℕ → ℕ) → RowPut (numbers held.old) slot plan.planes (pitch_of plan) row.lo row.hi f → RowHeld (numbers held.new) slot plan.planes (pitch_of plan) row.lo row.hi f }
     ensures apart { Apart (numbers held.old) (numbers held.new) slot (slot + block_of plan) }
 {
-    let mut j = 0;
-    let mut at = slot;
-    while j < plan.planes {
+    for j in 0..plan.planes {
+        let at = slot + j * (plan.across + MARGIN);
         held[at + row.lo] = NOTHING;
         held[at + row.hi + 1] = NOTHING;
-        j += 1;
-        at += plan.across + MARGIN;
     }
 }
 
@@ -35,14 +35,11 @@ pub(crate) fn load_row(held: &mut [u16], slot: usize, work: &[u16], at: usize, p
     ensures row_held { RowHeld (numbers held.new) slot plan.planes (pitch_of plan) row.lo row.hi (λ (j x : ℕ). get_or work.now (at + (j * plan.across + x)) 0) }
     ensures apart { Apart (numbers held.old) (numbers held.new) slot (slot + block_of plan) }
 {
-    let mut j = 0;
-    let mut to = slot + 1 + row.lo;
-    let mut from = at + row.lo;
-    while j < plan.planes {
-        turn_run(held, to, work, from, row.hi - row.lo);
-        j += 1;
-        to += plan.across + MARGIN;
-        from += plan.across;
+    let n = row.hi - row.lo;
+    for j in 0..plan.planes {
+        let to = slot + j * (plan.across + MARGIN) + 1 + row.lo;
+        let from = at + j * plan.across + row.lo;
+        turn_run(&mut held[to..to + n], &work[from..from + n]);
     }
     guard(held, slot, plan, row);
 }
@@ -60,14 +57,11 @@ pub(crate) fn store_row(
     ensures by_index { (f : ℕ → ℕ → ℕ) → RowHeld (numbers held.now) slot plan.planes (pitch_of plan) row.lo row.hi f → RowStored work.new at plan.planes plan.across row.lo row.hi f }
     ensures apart { Apart work.old work.new at (at + row_size plan) }
 {
-    let mut j = 0;
-    let mut to = at + row.lo;
-    let mut from = slot + 1 + row.lo;
-    while j < plan.planes {
-        turn_run(work, to, held, from, row.hi - row.lo);
-        j += 1;
-        to += plan.across;
-        from += plan.across + MARGIN;
+    let n = row.hi - row.lo;
+    for j in 0..plan.planes {
+        let to = at + j * plan.across + row.lo;
+        let from = slot + j * (plan.across + MARGIN) + 1 + row.lo;
+        turn_run(&mut work[to..to + n], &held[from..from + n]);
     }
 }
 
@@ -88,14 +82,12 @@ fn start_run(
     ensures { Started (numbers held.old) (numbers held.new) (λ (x : ℕ). get_or keys.now (at + x) 0) slot plan first past }
 {
     let n = past - first;
-    let start = at + first;
-    turn_run(held, slot + 1 + first, keys, start, n);
-    let mut j = 1;
-    let mut to = slot + 1 + first + (plan.across + MARGIN);
-    while j < plan.planes {
-        raise_run(held, to, keys, start, n, plan.slack);
-        j += 1;
-        to += plan.across + MARGIN;
+    let own = &keys[at + first..at + past];
+    let low = slot + 1 + first;
+    turn_run(&mut held[low..low + n], own);
+    for j in 1..plan.planes {
+        let to = low + j * (plan.across + MARGIN);
+        raise_run(&mut held[to..to + n], own, plan.slack);
     }
 }
 
@@ -134,8 +126,7 @@ pub(crate) fn blend_row(held: &mut [u16], keys: &[u16], plan: Plan, row: Row, ta
 }
 
 // The best of the pixels of a row rises to the held row joined with the one of another state at `at`: the
-// planes of the one from the lowest on, those of the other from the highest down. The loop counts by the
-// latter alone, so that the compiler settles for each run by itself that its numbers do not overlap.
+// planes of the one from the lowest on, those of the other from the highest down.
 pub(crate) fn join_row(
     best: &mut [u16],
     held: &[u16],
@@ -150,11 +141,9 @@ pub(crate) fn join_row(
 {
     let n = row.hi - row.lo;
     let to = row.at + row.lo;
-    let mut h = slot + 1 + row.lo;
-    let mut from = at + plan.planes * plan.across;
-    while from > at {
-        from -= plan.across;
-        fold_run(best, to, held, h, work, from + row.lo, n);
-        h += plan.across + MARGIN;
+    for j in 0..plan.planes {
+        let h = slot + j * (plan.across + MARGIN) + 1 + row.lo;
+        let w = at + (plan.planes - 1 - j) * plan.across + row.lo;
+        fold_run(&mut best[to..to + n], &held[h..h + n], &work[w..w + n]);
     }
 }

@@ -1,25 +1,35 @@
 // States from the one before, several at once, row after row: row m of the first, then that of the next,
 // and so on. Two rows of each state are held at a time, that of the number before (`was`) and that of this
 // number (`now`), so that of all these states only the last is stored. A row of one state by itself is made
-// straight away: the function for several would be a call more for each, and a copy of the plan.
+// straight away: the function for several would be a call more for each, and a copy of the plan. Which rows the
+// plan has, and how much a buffer holds, stay clauses: a type for a row would hold a copy of the plan, and one
+// for a buffer the buffer itself, which is lent on at each call.
 ghost use Rattle.std.specs.Prelude.{◌≡◌, ◌⊎◌, ◌+◌, ◌-◌, ◌*◌, ◌≤◌, ◌<◌, length};
 ghost use Rattle.eights.specs.Turned.{numbers};
 ghost use Rattle.states.specs.Runs.{Apart};
-ghost use Rattle.plans.specs.Plans.{Sound, rows_in, row_lo, row_hi, row_at, state_size, keys_size, block_of, half_of, half_with, starts};
+ghost use Rattle.plans.specs.Plans.{rows_in, row_lo, row_hi, row_at, state_size, keys_size, block_of, half_of, half_with, starts};
 ghost use Rattle.states.specs.States.{Advanced, Joined, further_in};
-ghost use Rattle.states.specs.Holding.{Slotted, Halves, MadeRow, NextRows, LastRow, tap_of};
+ghost use Rattle.states.specs.Holding.{Slotted, Halves, MadeRow, NextRows, AllRows, LastRow, tap_of};
 
 use crate::blends::Taps;
 use crate::rows::{blend_row, join_row, load_row, start_row, store_row};
 use crate::runs::fill_run;
 use eights::NOTHING;
-use plans::{MARGIN, Plan, Row, rows_in};
+use plans::{Followed, Plan, Row, rows_in};
 
 // States that are made at once: from number `first` below `past`.
 #[derive(Clone, Copy)]
 pub struct Stretch {
     pub first: usize,
     pub past: usize,
+}
+
+// A stretch that has a state, with numbers in range; it is asked once, where the value is made.
+#[derive(Clone, Copy)]
+pub(crate) struct Batch {
+    pub(crate) states: Stretch,
+    pub(crate) ghost some: { states.first < states.past },
+    pub(crate) ghost near: { states.past ≤ 65536 },
 }
 
 // Where the rows of the number before and of this number begin: the row of this state, then that of the
@@ -51,22 +61,21 @@ fn further(slots: Slots, by: usize) -> Slots
 }
 
 // Row m of state e, which is one of the plan's.
-fn row_in(plan: Plan, e: usize, m: usize) -> Row
-    requires sound { Sound plan }
-    requires e_bound { (e < 65536) × (m < rows_in plan e) }
-    ensures { (result.lo ≡ row_lo plan e m) × (result.hi ≡ row_hi plan e m) × (result.at ≡ row_at plan e m) }
+fn row_in(followed: Followed, e: usize, m: usize) -> Row
+    requires e_bound { (e < 65536) × (m < rows_in followed.plan e) }
+    ensures { (result.lo ≡ row_lo followed.plan e m) × (result.hi ≡ row_hi followed.plan e m) × (result.at ≡ row_at followed.plan e m) }
 {
-    plans::row_of(plan, e, m)
+    plans::row_of(followed.plan, e, m)
 }
 
 // How much the rows of one number take, where `more` states are made at once with the first.
-pub(crate) fn half_with(plan: Plan, more: usize) -> usize
-    requires { (plan.planes ≤ 9) × (plan.across ≤ 1024) × (more < 65536) }
-    ensures { (result ≡ half_with plan more) × (result ≤ 613426320) }
+pub(crate) fn half_with(followed: Followed, more: usize) -> usize
+    requires { more < 65536 }
+    ensures { (result ≡ half_with followed.plan more) × (result ≤ 613426320) }
 {
-    let block = plan.planes * (plan.across + MARGIN);
+    let block = followed.block_size();
     let others = more * block;
-    if plan.linked {
+    if followed.plan.linked {
         block + block + others
     } else {
         block + others
@@ -84,14 +93,14 @@ fn starts_at(plan: Plan, e: usize, m: usize) -> bool
 }
 
 // Where a step finds its number for pixel 0 of plane 0.
-fn tap(plan: Plan, slots: Slots, y: usize, x: usize) -> usize
-    requires { (plan.planes ≤ 9) × (plan.across ≤ 1024) × (slots.was < 40000) × (slots.now < 40000) × (x ≤ 2) }
-    ensures { result ≡ tap_of plan slots y + x }
+fn tap(followed: Followed, slots: Slots, y: usize, x: usize) -> usize
+    requires { (slots.was < 40000) × (slots.now < 40000) × (x ≤ 2) }
+    ensures { result ≡ tap_of followed.plan slots y + x }
 {
     if y == 0 {
         return slots.was + x;
     }
-    let block = plan.planes * (plan.across + MARGIN);
+    let block = followed.block_size();
     if y == 1 {
         return slots.was + block + x;
     }
@@ -104,63 +113,93 @@ fn hold_last(
     slot: usize,
     work: &[u16],
     from: usize,
-    plan: Plan,
+    followed: Followed,
     e: usize,
     m: usize,
 )
-    requires sound { Sound plan }
-    requires e_bound { (e < 65536) × (m < rows_in plan e) × (slot + (half_of plan - block_of plan) ≤ length held.old) × (from + state_size plan ≤ length work.now) }
-    ensures last_row { LastRow plan e m work.now from (numbers held.new) slot }
-    ensures apart { Apart (numbers held.old) (numbers held.new) slot (slot + (half_of plan - block_of plan)) }
+    requires e_bound { (e < 65536) × (m < rows_in followed.plan e) × (slot + (half_of followed.plan - block_of followed.plan) ≤ length held.old) × (from + state_size followed.plan ≤ length work.now) }
+    ensures last_row { LastRow followed.plan e m work.now from (numbers held.new) slot }
+    ensures apart { Apart (numbers held.old) (numbers held.new) slot (slot + (half_of followed.plan - block_of followed.plan)) }
 {
-    if !plan.linked {
+    if !followed.plan.linked {
         return;
     }
     if e == 0 {
-        fill_run(held, slot, plan.planes * (plan.across + MARGIN), NOTHING);
+        fill_run(held, slot, followed.block_size(), NOTHING);
     } else {
-        let row = row_in(plan, e - 1, m);
-        let at = from + m * (plan.planes * plan.across);
-        load_row(held, slot, work, at, plan, row);
+        let row = row_in(followed, e - 1, m);
+        let at = from + m * (followed.plan.planes * followed.plan.across);
+        load_row(held, slot, work, at, followed.plan, row);
     }
 }
 
 // Row m of state e, made of the rows of the number before and of the last state's row m, which is held.
-fn make_row(held: &mut [u16], work: &[u16], plan: Plan, e: usize, m: usize, slots: Slots)
-    requires sound { Sound plan }
-    requires e_bound { (e < 65536) × (m < rows_in plan e) × (keys_size plan ≤ length work.now) }
-    requires slotted { Slotted plan slots (length held.old) }
-    ensures { MadeRow plan e m work.now slots (numbers held.old) (numbers held.new) }
+fn make_row(held: &mut [u16], work: &[u16], followed: Followed, e: usize, m: usize, slots: Slots)
+    requires e_bound { (e < 65536) × (m < rows_in followed.plan e) × (keys_size followed.plan ≤ length work.now) }
+    requires slotted { Slotted followed.plan slots (length held.old) }
+    ensures { MadeRow followed.plan e m work.now slots (numbers held.old) (numbers held.new) }
 {
-    let row = row_in(plan, e, m);
-    if starts_at(plan, e, m) {
-        start_row(held, slots.now, work, plan, row, m);
+    let row = row_in(followed, e, m);
+    if starts_at(followed.plan, e, m) {
+        start_row(held, slots.now, work, followed.plan, row, m);
         return;
     }
+    let reach = followed.plan.reach;
     let taps = Taps {
-        t0: tap(plan, slots, plan.reach.y0, plan.reach.x0),
-        t1: tap(plan, slots, plan.reach.y1, plan.reach.x1),
-        t2: tap(plan, slots, plan.reach.y2, plan.reach.x2),
+        t0: tap(followed, slots, reach.y0, reach.x0),
+        t1: tap(followed, slots, reach.y1, reach.x1),
+        t2: tap(followed, slots, reach.y2, reach.x2),
         to: slots.now + 1,
     };
-    blend_row(held, work, plan, row, taps);
+    blend_row(held, work, followed.plan, row, taps);
 }
 
 // Row m of all states, that of the last one first in its half, so that beside the row of each is that of
 // the one before; beside that of the first it is held already.
-fn next_rows(held: &mut [u16], work: &[u16], plan: Plan, states: Stretch, m: usize, slots: Slots)
-    requires sound { (Sound plan) × (states.first < states.past) × (states.past ≤ 65536) }
-    requires m_bound { (m < rows_in plan (states.past - 1)) × (keys_size plan ≤ length work.now) }
-    requires halves { Halves plan (further_in states) slots (length held.old) }
-    ensures { NextRows plan states.first states.past m work.now slots (numbers held.old) (numbers held.new) }
+fn next_rows(
+    held: &mut [u16],
+    work: &[u16],
+    followed: Followed,
+    batch: Batch,
+    m: usize,
+    slots: Slots,
+)
+    requires m_bound { (m < rows_in followed.plan (batch.states.past - 1)) × (keys_size followed.plan ≤ length work.now) }
+    requires halves { Halves followed.plan (further_in batch.states) slots (length held.old) }
+    ensures { NextRows followed.plan batch.states.first batch.states.past m work.now slots (numbers held.old) (numbers held.new) }
 {
-    let block = plan.planes * (plan.across + MARGIN);
-    let mut e = states.first;
-    let mut at = (states.past - e) * block;
-    while e < states.past {
-        at -= block;
-        make_row(held, work, plan, e, m, further(slots, at));
-        e += 1;
+    let block = followed.block_size();
+    for e in batch.states.first..batch.states.past {
+        let at = (batch.states.past - 1 - e) * block;
+        make_row(held, work, followed, e, m, further(slots, at));
+    }
+}
+
+// Row m of all states. Row m of the state before them, which is read from the work buffer, is held beside the
+// place of the first one's row, `last` further on. It is inlined for the copy of the plan that a call takes.
+#[inline(always)]
+fn make_rows(
+    held: &mut [u16],
+    work: &[u16],
+    followed: Followed,
+    batch: Batch,
+    from: usize,
+    m: usize,
+    slots: Slots,
+    last: usize,
+)
+    requires m_bound { (m < rows_in followed.plan (batch.states.past - 1)) × (keys_size followed.plan ≤ length work.now) × (from + state_size followed.plan ≤ length work.now) }
+    requires halves { Halves followed.plan (further_in batch.states) slots (length held.old) }
+    requires last_value { last ≡ half_with followed.plan (further_in batch.states) - block_of followed.plan }
+    ensures { AllRows followed.plan batch.states.first batch.states.past m work.now from slots (numbers held.old) (numbers held.new) }
+{
+    let first = batch.states.first;
+    let e = batch.states.past - 1;
+    hold_last(held, slots.now + last, work, from, followed, first, m);
+    if first < e {
+        next_rows(held, work, followed, batch, m, slots);
+    } else {
+        make_row(held, work, followed, e, m, slots);
     }
 }
 
@@ -170,39 +209,29 @@ fn next_rows(held: &mut [u16], work: &[u16], plan: Plan, states: Stretch, m: usi
 pub(crate) fn make_states(
     work: &mut [u16],
     held: &mut [u16],
-    plan: Plan,
-    states: Stretch,
+    followed: Followed,
+    batch: Batch,
     from: usize,
     to: usize,
 )
-    requires sound { (Sound plan) × (states.first < states.past) × (states.past ≤ 65536) }
-    requires plan_bound { (keys_size plan ≤ from) × (keys_size plan ≤ to) × (from + state_size plan ≤ length work.old) × (to + state_size plan ≤ length work.old) }
-    requires fact { (from ≡ to) ⊎ ((from + state_size plan ≤ to) ⊎ (to + state_size plan ≤ from)) }
-    requires states_in_bounds { (half_with plan (further_in states) + half_with plan (further_in states) ≤ length held.old) × (length held.old ≤ 40000) }
-    ensures advanced { Advanced plan states.first states.past work.old work.new from to }
+    requires plan_bound { (keys_size followed.plan ≤ from) × (keys_size followed.plan ≤ to) × (from + state_size followed.plan ≤ length work.old) × (to + state_size followed.plan ≤ length work.old) }
+    requires fact { (from ≡ to) ⊎ ((from + state_size followed.plan ≤ to) ⊎ (to + state_size followed.plan ≤ from)) }
+    requires states_in_bounds { (half_with followed.plan (further_in batch.states) + half_with followed.plan (further_in batch.states) ≤ length held.old) × (length held.old ≤ 40000) }
+    ensures advanced { Advanced followed.plan batch.states.first batch.states.past work.old work.new from to }
     ensures held_len_unchanged { length held.new ≡ length held.old }
 {
-    let first = states.first;
-    let e = states.past - 1;
-    let half = half_with(plan, e - first);
-    let last = half - plan.planes * (plan.across + MARGIN);
+    let e = batch.states.past - 1;
+    let half = half_with(followed, e - batch.states.first);
+    let last = half - followed.block_size();
     fill_run(held, 0, half, NOTHING);
     let mut slots = Slots { was: 0, now: half };
-    let rows = rows_in(plan, e);
-    let mut at = to;
-    let mut m = 0;
-    while m < rows {
-        hold_last(held, slots.now + last, work, from, plan, first, m);
-        if first < e {
-            next_rows(held, work, plan, states, m, slots);
-        } else {
-            make_row(held, work, plan, e, m, slots);
-        }
-        let row = row_in(plan, e, m);
-        store_row(work, at, held, slots.now, plan, row);
+    let rows = rows_in(followed.plan, e);
+    for m in 0..rows {
+        make_rows(held, work, followed, batch, from, m, slots, last);
+        let at = to + m * (followed.plan.planes * followed.plan.across);
+        let row = row_in(followed, e, m);
+        store_row(work, at, held, slots.now, followed.plan, row);
         slots = swapped(slots);
-        at += plan.planes * plan.across;
-        m += 1;
     }
 }
 
@@ -213,39 +242,29 @@ pub(crate) fn make_joined(
     best: &mut [u16],
     work: &[u16],
     held: &mut [u16],
-    plan: Plan,
-    states: Stretch,
+    followed: Followed,
+    batch: Batch,
     from: usize,
     ends: usize,
 )
-    requires sound { (Sound plan) × (states.first < states.past) × (states.past ≤ 65536) }
-    requires past_value { (rows_in plan (states.past - 1) ≡ plan.rows) × (keys_size plan ≤ length best.old) }
-    requires plan_bound { (keys_size plan ≤ from) × (from + state_size plan ≤ length work.now) × (ends + state_size plan ≤ length work.now) }
-    requires states_in_bounds { (half_with plan (further_in states) + half_with plan (further_in states) ≤ length held.old) × (length held.old ≤ 40000) }
-    ensures joined { Joined plan states.first states.past work.now best.old best.new from ends }
+    requires past_value { (rows_in followed.plan (batch.states.past - 1) ≡ followed.plan.rows) × (keys_size followed.plan ≤ length best.old) }
+    requires plan_bound { (keys_size followed.plan ≤ from) × (from + state_size followed.plan ≤ length work.now) × (ends + state_size followed.plan ≤ length work.now) }
+    requires states_in_bounds { (half_with followed.plan (further_in batch.states) + half_with followed.plan (further_in batch.states) ≤ length held.old) × (length held.old ≤ 40000) }
+    ensures joined { Joined followed.plan batch.states.first batch.states.past work.now best.old best.new from ends }
     ensures held_len_unchanged { length held.new ≡ length held.old }
     ensures best_len_unchanged { length best.new ≡ length best.old }
 {
-    let first = states.first;
-    let e = states.past - 1;
-    let half = half_with(plan, e - first);
-    let last = half - plan.planes * (plan.across + MARGIN);
+    let e = batch.states.past - 1;
+    let half = half_with(followed, e - batch.states.first);
+    let last = half - followed.block_size();
     fill_run(held, 0, half, NOTHING);
     let mut slots = Slots { was: 0, now: half };
-    let size = plan.planes * plan.across;
-    let mut at = ends + plan.rows * size;
-    let mut m = 0;
-    while m < plan.rows {
-        hold_last(held, slots.now + last, work, from, plan, first, m);
-        if first < e {
-            next_rows(held, work, plan, states, m, slots);
-        } else {
-            make_row(held, work, plan, e, m, slots);
-        }
-        at -= size;
-        let row = row_in(plan, e, m);
-        join_row(best, held, slots.now, work, at, plan, row);
+    for m in 0..followed.plan.rows {
+        make_rows(held, work, followed, batch, from, m, slots, last);
+        let at = ends
+            + (followed.plan.rows - 1 - m) * (followed.plan.planes * followed.plan.across);
+        let row = row_in(followed, e, m);
+        join_row(best, held, slots.now, work, at, followed.plan, row);
         slots = swapped(slots);
-        m += 1;
     }
 }

@@ -16,7 +16,8 @@ fn main(rt: HostRuntime) -> io::Result<()> {
     io::writer(&rt).write_all(&out[..written])
 }
 
-// How many bytes were read before the buffer was full, or the input ended or failed.
+// How many bytes were read before the buffer was full, or the input ended or failed. By hand: read_exact
+// does not tell how many it read of a shorter input, and read_to_end wants a heap.
 fn read_full<R: Read>(from: &mut R, to: &mut [u8]) -> usize
     ensures { result ≤ length to.new }
 {

@@ -1,24 +1,21 @@
--- Laws of a plate's size: how it is judged at a cursor, and that the size of an accepted text is good and small.
-use Prim.Native.Nat.{ℕ, ◌*◌, ◌≤◌, ◌<◌}
+-- Laws of a plate's size: that the size of an accepted text is good and small.
+use Prim.Native.Nat.{ℕ, ◌*◌, ◌≤◌}
 use mathlib.Core.Path.{◌≡◌, sym, subst}
-use mathlib.Core.Bool.{true, false}
+use mathlib.Core.Bool.{false}
 use mathlib.Core.List.{List, []}
-use native.Mathlib.Omega.{arith}
-use borrow.Author.Tests.{ltb-false, lt-ltb, le-ltb}
+use borrow.Author.Tests.{ltb-false}
 use lib.Dec.{ltb}
-use Rattle.plate.specs.Refusals.{Verdict.accepted, row, bad_size, judged, size_check}
+use Rattle.plate.specs.Refusals.{Verdict.accepted, row, bad_size, size_check}
 use Rattle.text_lines.specs.Bytes.{bytes}
 use Rattle.text_lines.specs.Format.{number}
 use Rattle.survey_text.specs.Reading.{max_plate, PlateText, Rest, next, opening, size_judged, edition_line, size_lines, setting_lines, plate_lines, reading}
-use Rattle.survey_text.specs.Cursors.{stands, Counted, Step}
-use Rattle.survey_text.specs.declared.cursor.Cursor.{Cursor}
 use Rattle.survey_text.proofs.Verdicts.{accepted_same, steps_accepted, check_passed, checks_passed}
 
 pub record Sized (W H : ℕ) : Type 0 where
   pub good : bad_size W H ≡ false
   pub small : W * H ≤ max_plate
 
-size_accepted : (l : Rest) (x : (ℕ × ℕ) × Rest) → accepted x ≡ size_lines l → Sized x.0.0 x.0.1
+pub size_accepted : (l : Rest) (x : (ℕ × ℕ) × Rest) → accepted x ≡ size_lines l → Sized x.0.0 x.0.1
 unfolding size_lines size_judged
 size_accepted l x e =
     let a = steps_accepted (next (bytes "width=") number l) _ x e in
@@ -39,18 +36,3 @@ reading_sized text t e =
     let d = steps_accepted (setting_lines b.0.0 c.0.1) _ t c.2 in
     let f = steps_accepted (plate_lines c.0.0.0 c.0.0.1 d.0.1) _ t d.2 in
     subst (λ (u : PlateText). Sized u.width u.height) (sym (accepted_same t _ f.2)) (size_accepted b.0.1 c.0 c.1)
-
--- ---- the size is judged where the cursor stands
-
-module _ (text : List ℕ) (c : Cursor) (W H : ℕ) where
-  pub size_bad : c.refused ≤ 0 → bad_size W H ≡ true → Step text c (size_judged W H) (0, 0) (record { from = c.from; line = 0; refused = 1 })
-  unfolding size_judged judged stands
-  size_bad h e = record { told = rw (le-ltb 0 c.refused h, e); counted = record { few = omega arith } }
-
-  pub size_large : c.refused ≤ 0 → bad_size W H ≡ false → max_plate < W * H → Step text c (size_judged W H) (0, 0) (record { from = c.from; line = 0; refused = 14 })
-  unfolding size_judged judged stands
-  size_large h e l = record { told = rw (le-ltb 0 c.refused h, e, lt-ltb max_plate (W * H) l); counted = record { few = omega arith } }
-
-  pub size_good : Counted c → c.refused ≤ 0 → bad_size W H ≡ false → W * H ≤ max_plate → Step text c (size_judged W H) (W, H) c
-  unfolding size_judged judged stands
-  size_good n h e l = record { told = rw (le-ltb 0 c.refused h, e, le-ltb max_plate (W * H) l); counted = n }

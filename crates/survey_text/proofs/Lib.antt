@@ -1,7 +1,6 @@
--- a line, the reader's steps, its rows and its size
+-- a line, the reader's rows and its size
 pub mod NextLine
 pub mod Verdicts
-pub mod Steps
 pub mod Rows
 pub mod Heads
 -- what is asked, and the worked texts

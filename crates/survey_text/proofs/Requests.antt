@@ -6,18 +6,16 @@ use native.Mathlib.Omega.{arith}
 use lib.IntN.{ℤ}
 use lib.ListN.{length, drop}
 use lib.Seq.{take_at}
+use Rattle.std.specs.Prelude.{Ok}
 use Rattle.plate.specs.Levels.{corrected_plate}
 use Rattle.plate.specs.Refusals.{Verdict, Verdict.accepted, Verdict.refused, setting_checks, setting_verdict, correction_verdict}
 use Rattle.plate.specs.declared.setting.Setting.{Setting}
-use Rattle.plate.specs.Answers.{answered, result_after}
-use Rattle.plate.specs.declared.answer.Answer.{Answer}
 use Rattle.survey_text.specs.Reading.{PlateText, reading}
 use Rattle.survey_text.specs.Survey.{Survey, prepared, requested}
 use Rattle.survey_text.specs.Answers.{request_told, levels_after}
-use Rattle.survey_text.specs.Within.{with_lists, judged_told}
+use Rattle.survey_text.specs.Within.{with_lists, outcome}
 use Rattle.survey_text.specs.declared.reading.Header.{Header}
-use Rattle.survey_text.specs.declared.reading.Reading.TheVariants.{Plate, Refused}
-use Rattle.survey_text.proofs.Verdicts.{accepted_same, steps_accepted, checks_passed, done_result}
+use Rattle.survey_text.proofs.Verdicts.{accepted_same, steps_accepted, checks_passed}
 
 -- a setting that is accepted is the one that was judged
 pub same_setting : (s given : Setting) → accepted s ≡ setting_verdict given → s ≡ given
@@ -66,26 +64,25 @@ module _ (t : PlateText) where
       let b = steps_accepted (setting_verdict t.setting) _ v a.2 in
       (sym a.1, accepted_same v _ b.2 ∙ ap survey (same_setting b.0 t.setting b.1))
 
--- a refusal of the judgement is that of what was read
-pub judged_refused : {A : Type 0} (h : Header) (v : Verdict A) (n p : ℕ) → Refused n p ≡ judged_told h v → v ≡ refused n p
-judged_refused h (accepted a) n p e = absurd (let z : ◌≡◌ {A = ℕ} 0 1 = cc in omega arith)
-judged_refused h (refused m q) n p e = cc
+-- what passed every check is accepted
+outcome_accepted : {A : Type 0} (v : Verdict A) → accepted tt ≡ outcome v → (a : A) × (accepted a ≡ v)
+outcome_accepted (accepted a) e = (a, refl)
+outcome_accepted (refused n p) e = absurd (let z : ◌≡◌ {A = ℕ} 0 1 = cc in omega arith)
 
--- where it has none, what was read is accepted
-pub judged_accepted : {A : Type 0} (h k : Header) (v : Verdict A) → Plate k ≡ judged_told h v → (a : A) × (accepted a ≡ v) × (k ≡ h)
-judged_accepted h k (accepted a) e = (a, refl, cc)
-judged_accepted h k (refused n p) e = absurd (let z : ◌≡◌ {A = ℕ} 0 1 = cc in omega arith)
-
--- the levels of an accepted request stand at the front of the buffer
-module _ (h k : Header) (rs ws : List ℕ) (told : Plate k ≡ judged_told h (prepared (with_lists h rs ws))) (part old other : List ℤ) (r : Answer)
-    (judged : answered r ≡ correction_verdict h.width h.height rs ws (h.width * h.height))
-    (made : part ≡ result_after r (corrected_plate rs ws) other) (long : length part ≡ h.width * h.height) where
-  pub filled : let n = h.width * h.height in
-      (request_told (part ++ drop n old) (Plate k) ≡ prepared (with_lists h rs ws)) × (part ++ drop n old ≡ levels_after (prepared (with_lists h rs ws)) old)
-  filled =
-      let j = judged_accepted h k (prepared (with_lists h rs ws)) told in
+module _ (h : Header) (rs ws : List ℕ) (told : accepted tt ≡ outcome (prepared (with_lists h rs ws))) where
+  -- its correction is not refused
+  pub not_refused : {B : Type 0} (n p : ℕ) → refused n p ≡ correction_verdict h.width h.height rs ws (h.width * h.height) → B
+  not_refused n p e =
+      let j = outcome_accepted (prepared (with_lists h rs ws)) told in
       let a = prepared_accepted (with_lists h rs ws) j.0 j.1 in
-      let done : answered r ≡ accepted tt = judged ∙ a.0 in
-      let same : part ≡ corrected_plate rs ws = made ∙ done_result r (corrected_plate rs ws) other done in
+      let f : ◌≡◌ {A = Verdict Unit} (refused n p) (accepted tt) = e ∙ a.0 in
+      absurd (let z : ◌≡◌ {A = ℕ} 0 1 = cc in omega arith)
+
+  -- the levels of an accepted request stand at the front of the buffer
+  pub filled : (part old : List ℤ) → part ≡ corrected_plate rs ws → length part ≡ h.width * h.height → let n = h.width * h.height in
+      (request_told (part ++ drop n old) (Ok h) ≡ prepared (with_lists h rs ws)) × (part ++ drop n old ≡ levels_after (prepared (with_lists h rs ws)) old)
+  filled part old same long =
+      let j = outcome_accepted (prepared (with_lists h rs ws)) told in
+      let a = prepared_accepted (with_lists h rs ws) j.0 j.1 in
       let e : accepted (survey (with_lists h rs ws) h.setting) ≡ prepared (with_lists h rs ws) = ap accepted (sym a.1) ∙ j.1 in
-      rw (← e, j.2, take_at part (drop (h.width * h.height) old) (h.width * h.height) long, same) (refl, rw (← same, long))
+      rw (← e, take_at part (drop (h.width * h.height) old) (h.width * h.height) long, same) (refl, rw (← same, long))

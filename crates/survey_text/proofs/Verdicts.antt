@@ -5,11 +5,12 @@ use mathlib.Core.Bool.{false}
 use mathlib.Core.List.{List, [], ◌∷◌}
 use mathlib.Core.Logic.{⊎_elim}
 use native.Mathlib.Omega.{arith}
+use Rattle.std.specs.Prelude.{Option, None, Some, Result, Ok, Err}
+use Rattle.std.specs.Option.{ok_or}
 use Rattle.basics.proofs.Tests.{true_or_false}
 use Rattle.plate.specs.Refusals.{Verdict, Verdict.accepted, Verdict.refused, Check, judged}
 use Rattle.plate.specs.Answers.{answered, result_after}
-use Rattle.plate.specs.declared.answer.Answer.{Answer}
-use Rattle.plate.specs.declared.answer.Answer.TheVariants.{Done, Refused}
+use Rattle.plate.specs.declared.refusal.Refusal.{Refusal}
 use lib.IntN.{ℤ}
 use Rattle.survey_text.specs.Reading.{◌>>=◌}
 
@@ -37,6 +38,16 @@ checks_passed [] a b e = cc
 checks_passed (c ∷ cs) a b e = checks_passed cs a b (check_passed c cs a b e).1
 
 -- a call whose verdict is acceptance is done, and its result is the new one
-pub done_result : (r : Answer) (new old : List ℤ) → answered r ≡ accepted tt → result_after r new old ≡ new
-done_result Done new old e = refl
-done_result (Refused n p) new old e = absurd (let z : ◌≡◌ {A = ℕ} 0 1 = cc in omega arith)
+pub done_result : (r : Result Unit Refusal) (new old : List ℤ) → answered r ≡ accepted tt → result_after r new old ≡ new
+done_result (Ok _) new old e = refl
+done_result (Err r) new old e = absurd (let z : ◌≡◌ {A = ℕ} 0 1 = cc in omega arith)
+
+-- ---- an option in the place of a result
+
+pub got : {A E : Type 0} (o : Option A) (e : E) (a : A) → ok_or o e ≡ Ok a → o ≡ Some a
+got None e a h = absurd (let z : ◌≡◌ {A = ℕ} 0 1 = cc in omega arith)
+got (Some b) e a h = cc
+
+pub missed : {A E : Type 0} (o : Option A) (e f : E) → ok_or o e ≡ Err f → (o ≡ None) × (f ≡ e)
+missed None e f h = (refl, cc)
+missed (Some b) e f h = absurd (let z : ◌≡◌ {A = ℕ} 0 1 = cc in omega arith)

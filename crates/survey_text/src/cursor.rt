@@ -1,25 +1,30 @@
-// Where the reading of a text stands. A reader that is handed a cursor with a refusal reads nothing and
-// hands it on, so that the first refusal decides and the steps of a reading need no tests between them.
-ghost use Rattle.std.specs.Prelude.{◌≡◌};
+// Where the reading of a text stands.
+ghost use Rattle.std.specs.Prelude.{◌+◌, ◌≤◌};
 
-// The place of the next line's first byte, that line's number, and 0; or a refusal's number, whose
-// place is then the line.
+use plate::{Reason, Refusal};
+
+// The text, the place of its next line's first byte, and that line's number. There are no more lines than
+// bytes in front of the place, so that their number never wraps. The text with a place, and not the rest of
+// it as a slice, since `text_lines::value_at` takes a place of a text.
 #[derive(Clone, Copy)]
-pub(crate) struct Cursor {
+pub(crate) struct Cursor<'a> {
+    pub(crate) text: &'a [u8],
     pub(crate) from: usize,
     pub(crate) line: usize,
-    pub(crate) refused: usize,
+    ghost few: { line ≤ from + 1 },
 }
 
-impl Cursor {
-    // The line is refused with this number.
-    pub(crate) fn refuse(self, number: usize) -> Cursor
-        ensures { result ≡ record { from = self.from; line = self.line; refused = number } }
+impl<'a> Cursor<'a> {
+    ghost use Rattle.std.specs.Prelude.{◌≡◌};
+    ghost use Rattle.plate.specs.declared.refusal.Reason.TheVariants.{Line};
+
+    // The refusal of the next line.
+    pub(crate) fn refusal(self) -> Refusal
+        ensures { result ≡ record { reason = Line; place = self.entry.line } }
     {
-        Cursor {
-            from: self.from,
-            line: self.line,
-            refused: number,
+        Refusal {
+            reason: Reason::Line,
+            place: self.line,
         }
     }
 }

@@ -11,4 +11,4 @@ mod line;
 mod reading;
 
 pub use asking::request;
-pub use reading::{Header, MAX_PLATE, Reading};
+pub use reading::{Header, MAX_PLATE};

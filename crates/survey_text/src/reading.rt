@@ -1,38 +1,26 @@
 // Reading a plate's text. The order of judgement is document 01's (section 6): the text's length, the
 // lines up to `height=`, refusals 1 and 14 on the size, then the other lines. The first line names the
 // edition (document 02, N5); edition 2 has one line more, `ends=`.
-ghost use Rattle.std.specs.Prelude.{◌≡◌, List, ℕ, ◌*◌, ◌≤◌, length};
-ghost use Rattle.survey_text.specs.Reading.{max_plate, opening, size_judged, size_lines, ends_line, setting_lines, row_lines, at_end, plate_lines, reading};
+ghost use Rattle.std.specs.Prelude.{◌≡◌, [], ◌∷◌, ◌*◌, ◌≤◌, ltb, length};
+ghost use Rattle.plate.specs.RefusalNumbers.{refusal_large};
+ghost use Rattle.plate.specs.Refusals.{row, judged, size_check};
+ghost use Rattle.plate.specs.Answers.{answered};
+ghost use Rattle.survey_text.specs.Reading.{max_plate, opening, size_lines, ends_line, setting_lines, row_lines, at_end, plate_lines, reading};
 ghost use Rattle.survey_text.specs.Within.{reading_told};
-ghost use Rattle.survey_text.specs.Cursors.{Counted, Step, Last, stands};
+ghost use Rattle.survey_text.specs.Cursors.{rest_of, opened_told, step_told, filled_told, all_told};
 
 use crate::cursor::Cursor;
-use crate::line::{NumberLine, edition_line, list_line, number_line};
-use plate::{Setting, refusal};
+use crate::line::{edition_line, list_line, number_line};
+use plate::{Reason, Refusal, Setting};
 
 // The longest text, in bytes, and the largest plate, in pixels, of the program.
 const MAX_BYTES: usize = 16384;
 
 pub const MAX_PLATE: usize = 512;
 
-// The first edition of the format with a line `ends=`.
+// The first edition of the format with a line `ends=`. Editions are numbers, as the definitions have them
+// (text_lines/specs/Format.antt `edition`, specs/Reading.antt `ends_line`).
 const WITH_ENDS: usize = 2;
-
-// A plate's size; 0 by 0 where the cursor carries a refusal.
-#[derive(Clone, Copy)]
-pub(crate) struct SizeLines {
-    pub(crate) width: usize,
-    pub(crate) height: usize,
-    pub(crate) next: Cursor,
-}
-
-// The setting, and the pixel to trace.
-#[derive(Clone, Copy)]
-pub(crate) struct SettingLines {
-    pub(crate) setting: Setting,
-    pub(crate) at: usize,
-    pub(crate) next: Cursor,
-}
 
 // What a plate's text says besides its readings and its words; `at` is the pixel to trace.
 #[derive(Clone, Copy)]
@@ -43,210 +31,139 @@ pub struct Header {
     pub at: usize,
 }
 
-// What a text says, or its refusal.
-#[derive(Clone, Copy)]
-pub enum Reading {
-    Plate(Header),
-    Refused { number: usize, place: usize },
-}
-
 // The first line, unless the text is too long.
-fn open(s: &[u8]) -> Cursor
-    ensures result_value { stands s.now result ≡ opening s.now }
-    ensures counted { Counted result }
+fn open(s: &[u8]) -> Result<Cursor, Refusal>
+    ensures { opened_told result ≡ opening s.now }
 {
-    if s.len() > MAX_BYTES {
-        return Cursor {
-            from: 0,
-            line: 0,
-            refused: refusal::TEXT,
-        };
-    }
-    Cursor {
+    Reason::Text.refuse_if(s.len() > MAX_BYTES)?;
+    Ok(Cursor {
+        text: s,
         from: 0,
         line: 1,
-        refused: 0,
-    }
+    })
 }
 
 // Refusals 1 and 14 on a size that was read.
-fn judge_size(width: usize, height: usize, c: Cursor) -> SizeLines
-    requires { Counted c }
-    ensures height_bound { result.width * result.height ≤ max_plate }
-    ensures by_index { (text : List ℕ) → Step text c (size_judged width height) (result.width, result.height) result.next }
+fn judge_size(width: usize, height: usize) -> Result<(), Refusal>
+    ensures { answered result ≡ judged (size_check width height ∷ row refusal_large (ltb max_plate (width * height)) 0 ∷ []) tt }
 {
-    if c.refused > 0 {
-        return SizeLines {
-            width: 0,
-            height: 0,
-            next: c,
-        };
-    }
-    if plate::bad_size(width, height) {
-        return SizeLines {
-            width: 0,
-            height: 0,
-            next: Cursor {
-                from: c.from,
-                line: 0,
-                refused: refusal::SIZE,
-            },
-        };
-    }
-    if width * height > MAX_PLATE {
-        return SizeLines {
-            width: 0,
-            height: 0,
-            next: Cursor {
-                from: c.from,
-                line: 0,
-                refused: refusal::TEXT,
-            },
-        };
-    }
-    SizeLines {
-        width: width,
-        height: height,
-        next: c,
-    }
+    Reason::Size.refuse_if(plate::bad_size(width, height))?;
+    Reason::Text.refuse_if(width * height > MAX_PLATE)
 }
 
-// The lines `width=` and `height=`, and what becomes of the size.
-fn size_lines(s: &[u8], c: Cursor) -> SizeLines
-    requires { Counted c }
-    ensures height_bound { result.width * result.height ≤ max_plate }
-    ensures step { Step s.now c size_lines (result.width, result.height) result.next }
+// The lines `width=` and `height=`; the size is judged. It stays two numbers here and below, as in the header
+// and in the definitions.
+#[tactic(auto, unfolding(crate::specs::Reading::size_lines))]
+fn size_lines(c: Cursor) -> Result<((usize, usize), Cursor), Refusal>
+    ensures { step_told result ≡ size_lines (rest_of c.entry) }
 {
-    let width = number_line(s, b"width=", c);
-    let height = number_line(s, b"height=", width.next);
-    judge_size(width.value, height.value, height.next)
+    let (width, c) = number_line(c, b"width=")?;
+    let (height, c) = number_line(c, b"height=")?;
+    judge_size(width, height)?;
+    Ok(((width, height), c))
 }
 
 // The line `ends=`. Where the edition has none, nothing is read and 0 is meant; an `ends=` that stands there
 // all the same is refused by the next step, which wants `ways=`.
-fn ends_line(s: &[u8], edition: usize, c: Cursor) -> NumberLine
-    requires { Counted c }
-    ensures { Step s.now c (ends_line edition) result.value result.next }
+#[tactic(auto, unfolding(crate::specs::Reading::ends_line))]
+fn ends_line(c: Cursor, edition: usize) -> Result<(usize, Cursor), Refusal>
+    ensures { step_told result ≡ ends_line edition (rest_of c.entry) }
 {
     if edition < WITH_ENDS {
-        return NumberLine { value: 0, next: c };
+        return Ok((0, c));
     }
-    number_line(s, b"ends=", c)
+    number_line(c, b"ends=")
 }
 
-// The lines from `length=` to `at=`. Each step goes on where the last one stopped.
-fn setting_lines(s: &[u8], edition: usize, c: Cursor) -> SettingLines
-    requires { Counted c }
-    ensures { Step s.now c (setting_lines edition) (result.setting, result.at) result.next }
+// The lines from `length=` to `at=`: the setting, and the pixel to trace.
+#[tactic(auto, unfolding(crate::specs::Reading::setting_lines))]
+fn setting_lines(c: Cursor, edition: usize) -> Result<((Setting, usize), Cursor), Refusal>
+    ensures { step_told result ≡ setting_lines edition (rest_of c.entry) }
 {
-    let length = number_line(s, b"length=", c);
-    let gaps = number_line(s, b"gaps=", length.next);
-    let ends = ends_line(s, edition, gaps.next);
-    let ways = number_line(s, b"ways=", ends.next);
-    let mode = number_line(s, b"mode=", ways.next);
-    let at = number_line(s, b"at=", mode.next);
-    let next = at.next;
-    SettingLines {
-        setting: Setting {
-            length: length.value,
-            gaps: gaps.value,
-            directions: ways.value,
-            mode: mode.value,
-            ends: ends.value,
-        },
-        at: at.value,
-        next: next,
-    }
+    let (length, c) = number_line(c, b"length=")?;
+    let (gaps, c) = number_line(c, b"gaps=")?;
+    let (ends, c) = ends_line(c, edition)?;
+    let (directions, c) = number_line(c, b"ways=")?;
+    let (mode, c) = number_line(c, b"mode=")?;
+    let (at, c) = number_line(c, b"at=")?;
+    let setting = Setting {
+        length,
+        gaps,
+        directions,
+        mode,
+        ends,
+    };
+    Ok(((setting, at), c))
 }
 
 // Fills out, row by row, from as many lines of this name as the plate has rows.
-fn row_lines(
-    s: &[u8],
+fn row_lines<'a>(
+    c: Cursor<'a>,
     name: &[u8],
     width: usize,
     height: usize,
-    c: Cursor,
     out: &mut [u16],
-) -> Cursor
-    requires out_len { length out.old ≡ height * width }
-    requires counted { Counted c }
-    ensures { Step s.now c (row_lines name.now width height) out.new result }
+) -> Result<Cursor<'a>, Refusal>
+    requires { length out.old ≡ height * width }
+    ensures { filled_told out.new result ≡ row_lines name.now width height (rest_of c.entry) }
 {
     let mut here = c;
-    let mut start = 0;
-    let mut i = 0;
-    while i < height {
-        let end = start + width;
-        here = list_line(s, name, here, &mut out[start..end]);
-        start = end;
-        i += 1;
+    // By index: of a buffer that `chunks_exact_mut` has lent row by row, a proof knows the length and no number.
+    for i in 0..height {
+        let start = i * width;
+        here = list_line(here, name, &mut out[start..start + width])?;
     }
-    here
+    Ok(here)
 }
 
 // No line may be left.
-fn end_of_text(s: &[u8], c: Cursor) -> Cursor
-    ensures { Last s.now c at_end tt result }
+fn end_of_text(c: Cursor) -> Result<(), Refusal>
+    ensures { answered result ≡ at_end (rest_of c.entry) }
 {
-    if c.refused > 0 {
-        return c;
+    if c.from < c.text.len() {
+        return Err(c.refusal());
     }
-    if c.from < s.len() {
-        return c.refuse(refusal::LINE);
-    }
-    c
+    Ok(())
 }
 
 // The readings, the correction words, and the end of the text.
+#[tactic(auto, unfolding(crate::specs::Reading::plate_lines))]
 fn plate_lines(
-    s: &[u8],
+    c: Cursor,
     width: usize,
     height: usize,
-    c: Cursor,
     readings: &mut [u16],
     words: &mut [u16],
-) -> Cursor
+) -> Result<(), Refusal>
     requires readings_len { length readings.old ≡ height * width }
     requires words_len { length words.old ≡ height * width }
-    requires counted { Counted c }
-    ensures { Last s.now c (plate_lines width height) (readings.new, words.new) result }
+    ensures { all_told (readings.new, words.new) result ≡ plate_lines width height (rest_of c.entry) }
 {
-    let middle = row_lines(s, b"row=", width, height, c, readings);
-    let last = row_lines(s, b"cor=", width, height, middle, words);
-    end_of_text(s, last)
+    let c = row_lines(c, b"row=", width, height, readings)?;
+    let c = row_lines(c, b"cor=", width, height, words)?;
+    end_of_text(c)
 }
 
 // Reads a text: the numbers of its head, and into the front of the two lent buffers its readings and
 // its correction words.
-pub(crate) fn read(s: &[u8], readings: &mut [u16], words: &mut [u16]) -> Reading
-    requires max_plate_in_bounds { max_plate ≤ length readings.old }
-    requires max_plate_in_bounds_2 { max_plate ≤ length words.old }
+#[tactic(auto, unfolding(crate::specs::Reading::reading))]
+pub(crate) fn read(
+    s: &[u8],
+    readings: &mut [u16; MAX_PLATE],
+    words: &mut [u16; MAX_PLATE],
+) -> Result<Header, Refusal>
     ensures { reading_told readings.new words.new result ≡ reading s.now }
 {
-    let start = open(s);
-    let edition = edition_line(s, start);
-    let size = size_lines(s, edition.next);
-    let given = setting_lines(s, edition.value, size.next);
-    let n = size.width * size.height;
-    let last = plate_lines(
-        s,
-        size.width,
-        size.height,
-        given.next,
-        &mut readings[..n],
-        &mut words[..n],
-    );
-    if last.refused > 0 {
-        return Reading::Refused {
-            number: last.refused,
-            place: last.line,
-        };
-    }
-    let setting = given.setting;
-    Reading::Plate(Header {
-        width: size.width,
-        height: size.height,
-        setting: setting,
-        at: given.at,
+    let c = open(s)?;
+    let (edition, c) = edition_line(c)?;
+    let ((width, height), c) = size_lines(c)?;
+    let ((setting, at), c) = setting_lines(c, edition)?;
+    let n = width * height;
+    plate_lines(c, width, height, &mut readings[..n], &mut words[..n])?;
+    Ok(Header {
+        width,
+        height,
+        setting,
+        at,
     })
 }

@@ -1,13 +1,14 @@
 -- Laws of a list that is written with commas between its elements: the first one, and then each other one behind a comma.
-use Prim.Native.Nat.{ℕ, ◌+◌, ◌≤◌, ◌<◌}
+use Prim.Native.Nat.{ℕ, ◌+◌, ◌<◌}
 use mathlib.Core.Path.{◌≡◌, refl}
 use mathlib.Core.List.{List, [], ◌∷◌, ◌++◌, map, flat_map}
 use native.Mathlib.Numerals.{add-one}
 use native.Mathlib.Omega.{arith}
-use lib.ListN.{length, get_or, drop, drop_of_length-le}
+use lib.ListN.{length, get_or, drop}
 use lib.Seq.{drop-cons}
 use Rattle.text_lines.specs.Bytes.{comma}
 use Rattle.survey_text.specs.Printing.{parted}
+use Rattle.surveying.specs.declared.writing.Writer.{Writer}
 use Rattle.surveying.specs.Buffers.{Room, Written}
 use Rattle.surveying.proofs.Written.{Writing, writing_room, writing_more}
 
@@ -20,14 +21,9 @@ unfolding parted
 parted_none show [] e = refl
 parted_none show (x ∷ xs) e = absurd (omega arith)
 
-pub parted_first : {A : Type 0} (show : A → List ℕ) (xs : List A) (d : A) → 0 < length xs → parted (map show xs) ≡ show (get_or xs 0 d) ++ behind show (drop 1 xs)
+pub parted_first : {A : Type 0} (show : A → List ℕ) {items : List A} (x : A) (xs : List A) → items ≡ x ∷ xs → parted (map show items) ≡ show x ++ behind show xs
 unfolding parted
-parted_first show [] d h = absurd (omega arith)
-parted_first show (x ∷ xs) d h = refl
-
-pub behind_end : {A : Type 0} (show : A → List ℕ) (xs : List A) (i : ℕ) → length xs ≤ i → behind show (drop i xs) ≡ []
-unfolding flat_map
-behind_end show xs i h = rw (drop_of_length-le xs h)
+parted_first show x xs e = rw e refl
 
 module _ {A : Type 0} (show : A → List ℕ) (xs : List A) (d : A) (i : ℕ) (h : i < length xs) where
   -- the next element and those behind it
@@ -38,16 +34,16 @@ module _ {A : Type 0} (show : A → List ℕ) (xs : List A) (d : A) (i : ℕ) (h
   unfolding flat_map
   behind_more = rw (add-one, drop-cons xs i d h)
 
-  module _ {whole : List ℕ} {at : ℕ} {out now : List ℕ} {next : ℕ} (g : Writing whole (behind show (drop i xs)) at out now next) (room : Room whole at out) where
-    pub comma_room : Room (comma ∷ []) next now
+  module _ {whole : List ℕ} {w now : Writer} (g : Writing whole (behind show (drop i xs)) w now) (room : Room whole w) where
+    pub comma_room : Room (comma ∷ []) now
     comma_room = writing_room g room (comma ∷ []) following behind_more
 
-    module _ {mid : List ℕ} {m : ℕ} (w : Written (comma ∷ []) next now mid m) where
-      after_comma : Writing whole following at out mid m
-      after_comma = writing_more g room (comma ∷ []) following behind_more mid m w
+    module _ {mid : Writer} (c : Written (comma ∷ []) now mid) where
+      after_comma : Writing whole following w mid
+      after_comma = writing_more g room (comma ∷ []) following behind_more c
 
-      pub element_room : Room (show (get_or xs i d)) m mid
+      pub element_room : Room (show (get_or xs i d)) mid
       element_room = writing_room after_comma room (show (get_or xs i d)) (behind show (drop (i + 1) xs)) refl
 
-      pub element_written : (after : List ℕ) (n : ℕ) → Written (show (get_or xs i d)) m mid after n → Writing whole (behind show (drop (i + 1) xs)) at out after n
-      element_written after n v = writing_more after_comma room (show (get_or xs i d)) (behind show (drop (i + 1) xs)) refl after n v
+      pub element_written : {after : Writer} → Written (show (get_or xs i d)) mid after → Writing whole (behind show (drop (i + 1) xs)) w after
+      element_written e = writing_more after_comma room (show (get_or xs i d)) (behind show (drop (i + 1) xs)) refl e

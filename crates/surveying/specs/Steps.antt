@@ -1,13 +1,15 @@
 -- Cited by the contracts of private functions alone: what a survey has to fulfil before the filter and the trace, and what was written of its answer.
-use Rattle.std.specs.Prelude.{ℕ, ◌*◌, ◌≤◌, ◌<◌, ◌≡◌, false, List, ℤ, pos, length, get_or}
+use Rattle.std.specs.Prelude.{ℕ, ◌*◌, ◌≤◌, ◌<◌, ◌≡◌, false, List, ℤ, pos, Result, Ok, Err, length, get_or}
 use Rattle.std.specs.Int.Signed.{mag}
 use Rattle.plate.specs.Refusals.{Verdict.accepted, bad_size, setting_verdict}
-use Rattle.plate.specs.declared.answer.Traced.{Traced}
-use Rattle.plate.specs.declared.answer.Traced.TheVariants.{Path, Refused as Untraced}
+use Rattle.plate.specs.Answers.{number_by}
+use Rattle.plate.specs.declared.answer.Trace.{Trace}
+use Rattle.plate.specs.declared.refusal.Refusal.{Refusal}
 use Rattle.survey_text.specs.Reading.{◌>>=◌, max_plate}
 use Rattle.survey_text.specs.Printing.{trace_text, refusal_text}
 use Rattle.survey_text.specs.Survey.{Survey, traced, printed, survey_text}
 use Rattle.surveying.specs.Buffers.{Written}
+use Rattle.surveying.specs.declared.writing.Writer.{Writer}
 use Rattle.survey_text.specs.declared.reading.Header.{Header}
 use Rattle.surveying.specs.Surveying.{max_output, ShowsOf}
 
@@ -46,30 +48,30 @@ pub record Ready (v : Survey) : Type 0 where
   pub valid : setting_verdict v.setting ≡ accepted v.setting
 
 -- the lines of a trace's answer
-abbrev pub traced_text : Traced → List ℕ → List ℕ
-traced_text (Path way level) path = trace_text way level path
-traced_text (Untraced number place) path = refusal_text number place
+abbrev pub traced_text : Result Trace Refusal → List ℕ → List ℕ
+traced_text (Ok trace) path = trace_text trace.direction trace.level path
+traced_text (Err r) path = refusal_text (number_by r.reason) r.place
 
 -- the places of a path that is shown are on the largest plate
-abbrev pub OnPlate : Traced → List ℕ → Type 0
-OnPlate (Path way level) path = (i : ℕ) → i < length path → get_or path i 0 < max_plate
-OnPlate (Untraced number place) path = Unit
+abbrev pub OnPlate : Result Trace Refusal → List ℕ → Type 0
+OnPlate (Ok _) path = (i : ℕ) → i < length path → get_or path i 0 < max_plate
+OnPlate (Err _) path = Unit
 
--- a text of at most so many bytes was written at a place of the buffer
-pub record WrittenShort (text : List ℕ) (most at : ℕ) (before after : List ℕ) (next : ℕ) : Type 0 where
-  pub written : Written text at before after next
+-- a text of at most so many bytes was written
+pub record WrittenShort (text : List ℕ) (most : ℕ) (before after : Writer) : Type 0 where
+  pub written : Written text before after
   pub short : length text ≤ most
 
 -- the trace's lines of a survey, with a way and a path that it may show
-pub record TraceWritten (v : Survey) (at : ℕ) (before after : List ℕ) (next : ℕ) : Type 0 where
+pub record TraceWritten (v : Survey) (before after : Writer) : Type 0 where
   pub way : ℕ
   pub path : List ℕ
   pub shows : (level : ℤ) → traced v ≡ accepted level → ShowsOf v level way path
-  pub lines : WrittenShort (printed (traced v >>= λ level. accepted (trace_text way level path))) max_trace at before after next
+  pub lines : WrittenShort (printed (traced v >>= λ level. accepted (trace_text way level path))) max_trace before after
 
 -- all lines of a survey
-pub record SurveyWritten (v : Survey) (before after : List ℕ) (next : ℕ) : Type 0 where
+pub record SurveyWritten (v : Survey) (before after : Writer) : Type 0 where
   pub way : ℕ
   pub path : List ℕ
   pub shows : (level : ℤ) → traced v ≡ accepted level → ShowsOf v level way path
-  pub lines : WrittenShort (survey_text v way path) max_output 0 before after next
+  pub lines : WrittenShort (survey_text v way path) max_output before after

@@ -6,7 +6,7 @@
 // what a trace shows.
 #![tactic(auto)]
 
-ghost use Rattle.std.specs.Prelude.{◌≡◌, ◌≤◌, length};
+ghost use Rattle.std.specs.Prelude.{◌≡◌, ◌+◌, ◌≤◌, length};
 ghost use Rattle.plate.specs.Limits.{max_length};
 ghost use Rattle.survey_text.specs.Reading.{max_plate};
 ghost use Rattle.surveying.specs.Surveying.{max_output, Surveyed};
@@ -14,8 +14,9 @@ ghost use Rattle.surveying.specs.Steps.{max_work, asked, Ready, SurveyWritten};
 
 use crate::printing::{print_plate, print_refusal};
 use crate::traced::write_trace;
+use crate::writing::Writer;
 use plate::Setting;
-use survey_text::{Header, MAX_PLATE, Reading};
+use survey_text::{Header, MAX_PLATE};
 
 mod printing;
 mod traced;
@@ -33,25 +34,24 @@ pub fn survey(text: &[u8], out: &mut [u8; MAX_OUTPUT]) -> usize
 {
     let mut levels = [0i16; MAX_PLATE];
     let got = survey_text::request(text, &mut levels);
+    let mut w = Writer { out, at: 0 };
     match got {
-        Reading::Refused { number, place } => print_refusal(number, place, out, 0),
-        Reading::Plate(head) => {
-            let n = head.width * head.height;
-            answer(head, &levels[..n], out)
-        }
+        Ok(head) => answer(head, &levels[..head.width * head.height], &mut w),
+        Err(refusal) => print_refusal(refusal, &mut w),
     }
+    w.at
 }
 
 // The answer to a survey that passed the checks of its text; the buffers are enough for every one.
-fn answer(head: Header, levels: &[i16], out: &mut [u8]) -> usize
+fn answer(head: Header, levels: &[i16], w: &mut Writer)
     requires ready { Ready (asked head levels.now) }
-    requires max_output_in_bounds { max_output ≤ length out.old }
-    ensures { SurveyWritten (asked head levels.now) out.old out.new result }
+    requires max_output_in_bounds { w.old.at + max_output ≤ length w.old.out.now }
+    ensures { SurveyWritten (asked head levels.now) w.old w.new }
 {
     let mut result = [0i16; MAX_PLATE];
     let mut path = path_buffer();
     let mut work = work_buffer();
-    write_answer(head, levels, &mut result, &mut path, &mut work, out)
+    write_answer(head, levels, &mut result, &mut path, &mut work, w);
 }
 
 // What is in these two before their first use is free, so that their lengths are all that is said.
@@ -74,24 +74,18 @@ fn write_answer(
     res: &mut [i16],
     path: &mut [usize],
     work: &mut [u16],
-    out: &mut [u8],
-) -> usize
+    w: &mut Writer,
+)
     requires ready { Ready (asked head levels.now) }
     requires max_plate_in_bounds { max_plate ≤ length res.old }
     requires max_length_in_bounds { max_length ≤ length path.old }
     requires max_work_in_bounds { max_work ≤ length work.old }
-    requires max_output_in_bounds { max_output ≤ length out.old }
-    ensures { SurveyWritten (asked head levels.now) out.old out.new result }
+    requires max_output_in_bounds { w.old.at + max_output ≤ length w.old.out.now }
+    ensures { SurveyWritten (asked head levels.now) w.old w.new }
 {
-    let n = head.width * head.height;
-    engine::filter(
-        head.width,
-        head.height,
-        levels,
-        head.setting,
-        &mut res[..n],
-        work,
-    );
-    let next = print_plate(head.width, head.height, &res[..n], out, 0);
-    write_trace(head, levels, path, work, out, next)
+    let res = &mut res[..head.width * head.height];
+    // Never refused: the text's checks are the filter's, and the buffers are long enough.
+    let _ = engine::filter(head.width, head.height, levels, head.setting, res, work);
+    print_plate(head.width, head.height, res, w);
+    write_trace(head, levels, path, work, w);
 }

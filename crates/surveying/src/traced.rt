@@ -4,7 +4,8 @@ ghost use Rattle.plate.specs.Limits.{max_length};
 ghost use Rattle.surveying.specs.Steps.{max_work, max_trace, asked, Ready, OnPlate, traced_text, WrittenShort, TraceWritten};
 
 use crate::printing::{print_refusal, print_trace};
-use plate::Traced;
+use crate::writing::Writer;
+use plate::{Refusal, Trace};
 use survey_text::Header;
 
 // The trace's lines, or those of its refusal.
@@ -13,37 +14,36 @@ pub(crate) fn write_trace(
     levels: &[i16],
     path: &mut [usize],
     work: &mut [u16],
-    out: &mut [u8],
-    at: usize,
-) -> usize
+    w: &mut Writer,
+)
     requires ready { Ready (asked head levels.now) }
     requires max_length_in_bounds { max_length ≤ length path.old }
     requires max_work_in_bounds { max_work ≤ length work.old }
-    requires max_trace_in_bounds { at + max_trace ≤ length out.old }
-    ensures { TraceWritten (asked head levels.now) at out.old out.new result }
+    requires max_trace_in_bounds { w.old.at + max_trace ≤ length w.old.out.now }
+    ensures { TraceWritten (asked head levels.now) w.old w.new }
 {
-    let length = head.setting.length;
+    let path = &mut path[..head.setting.length];
     let traced = tracing::trace(
         head.width,
         head.height,
         levels,
         head.setting,
         head.at,
-        &mut path[..length],
+        path,
         work,
     );
-    write_traced(traced, &path[..length], out, at)
+    write_traced(traced, path, w);
 }
 
 // What a trace answered, with the path that it left in its buffer.
-fn write_traced(traced: Traced, path: &[usize], out: &mut [u8], at: usize) -> usize
+fn write_traced(traced: Result<Trace, Refusal>, path: &[usize], w: &mut Writer)
     requires path_len_bound { length path.now ≤ max_length }
     requires on_plate { OnPlate traced path.now }
-    requires max_trace_in_bounds { at + max_trace ≤ length out.old }
-    ensures { WrittenShort (traced_text traced path.now) max_trace at out.old out.new result }
+    requires max_trace_in_bounds { w.old.at + max_trace ≤ length w.old.out.now }
+    ensures { WrittenShort (traced_text traced path.now) max_trace w.old w.new }
 {
     match traced {
-        Traced::Path { direction, level } => { print_trace(direction, level, path, out, at) }
-        Traced::Refused { number, place } => print_refusal(number, place, out, at),
+        Ok(trace) => print_trace(trace, path, w),
+        Err(refusal) => print_refusal(refusal, w),
     }
 }

@@ -1,94 +1,112 @@
-// Writing numbers and lists of numbers into a lent buffer. Each writer answers the place behind what it
-// wrote, so that two writes in a row are one.
-ghost use Rattle.std.specs.Prelude.{◌≡◌, [], ◌∷◌, map, nat_abs};
-ghost use Rattle.survey_text.specs.Printing.{decimal, signed_decimal, parted};
+// Writing the parts of a text into a lent buffer, one behind the other: a writer has the buffer and the
+// place behind what it wrote, so that two writes in a row are one.
+//
+// Numbers are printed by hand: `write!` promises which bytes it wrote only where it answers Ok, and never
+// that it does, while `survey` promises the whole answer (Surveyed).
+ghost use Rattle.std.specs.Prelude.{◌≡◌, ℕ, List, [], ◌∷◌, map};
+ghost use Rattle.survey_text.specs.Printing.{decimal, signed_decimal, parted, line};
 ghost use Rattle.surveying.specs.Buffers.{Room, Written};
 
-pub(crate) fn put(b: u8, out: &mut [u8], at: usize) -> usize
-    requires { Room (b ∷ []) at out.old }
-    ensures { Written (b ∷ []) at out.old out.new result }
-{
-    out[at] = b;
-    at + 1
+#[derive(Drop)]
+pub(crate) struct Writer<'a> {
+    pub(crate) out: &'a mut [u8],
+    pub(crate) at: usize,
 }
 
-pub(crate) fn put_text(text: &[u8], out: &mut [u8], at: usize) -> usize
-    requires { Room text.now at out.old }
-    ensures { Written text.now at out.old out.new result }
-{
-    let mut next = at;
-    let mut i = 0;
-    while i < text.len() {
-        next = put(text[i], out, next);
-        i += 1;
-    }
-    next
+// What stands on a line behind its name.
+pub(crate) trait Printed: Copy {
+    ghost text: { Self → List ℕ };
+
+    fn print(self, w: &mut Writer)
+        requires { Room (text self) w.old }
+        ensures { Written (text self) w.old w.new };
 }
 
-pub(crate) fn put_number(n: usize, out: &mut [u8], at: usize) -> usize
-    requires { Room (decimal n) at out.old }
-    ensures { Written (decimal n) at out.old out.new result }
-{
-    if n < 10 {
-        return put(b'0' + n as u8, out, at);
+impl Printed for usize {
+    ghost text = { decimal };
+
+    fn print(self, w: &mut Writer) {
+        w.number(self);
     }
-    let next = put_number(n / 10, out, at);
-    put(b'0' + (n % 10) as u8, out, next)
 }
 
-// How far a level lies from zero; in 32 bits, since −(−32,768) needs 17.
-fn magnitude(v: i16) -> usize
-    ensures { result ≡ nat_abs v }
-{
-    if v < 0 {
-        return (-(v as i32)) as usize;
+impl Printed for i16 {
+    ghost text = { signed_decimal };
+
+    fn print(self, w: &mut Writer) {
+        w.level(self);
     }
-    v as usize
 }
 
-pub(crate) fn put_level(level: i16, out: &mut [u8], at: usize) -> usize
-    requires { Room (signed_decimal level) at out.old }
-    ensures { Written (signed_decimal level) at out.old out.new result }
-{
-    if level < 0 {
-        let next = put(b'-', out, at);
-        return put_number(magnitude(level), out, next);
+// The items parted by commas.
+impl<T: Printed> Printed for &[T] {
+    ghost text = { λ items. parted (map T.text items.now) };
+
+    fn print(self, w: &mut Writer) {
+        w.list(self);
     }
-    put_number(magnitude(level), out, at)
 }
 
-// Levels parted by commas.
-pub(crate) fn put_levels(levels: &[i16], out: &mut [u8], at: usize) -> usize
-    requires { Room (parted (map signed_decimal levels.now)) at out.old }
-    ensures { Written (parted (map signed_decimal levels.now)) at out.old out.new result }
-{
-    if levels.len() == 0 {
-        return at;
+impl Writer<'_> {
+    fn put(&mut self, b: u8)
+        requires { Room (b ∷ []) self.old }
+        ensures { Written (b ∷ []) self.old self.new }
+    {
+        self.out[self.at] = b;
+        self.at += 1;
     }
-    let mut next = put_level(levels[0], out, at);
-    let mut i = 1;
-    while i < levels.len() {
-        next = put(b',', out, next);
-        next = put_level(levels[i], out, next);
-        i += 1;
-    }
-    next
-}
 
-// Places parted by commas.
-pub(crate) fn put_places(places: &[usize], out: &mut [u8], at: usize) -> usize
-    requires { Room (parted (map decimal places.now)) at out.old }
-    ensures { Written (parted (map decimal places.now)) at out.old out.new result }
-{
-    if places.len() == 0 {
-        return at;
+    fn text(&mut self, text: &[u8])
+        requires { Room text.now self.old }
+        ensures { Written text.now self.old self.new }
+    {
+        let end = self.at + text.len();
+        self.out[self.at..end].copy_from_slice(text);
+        self.at = end;
     }
-    let mut next = put_number(places[0], out, at);
-    let mut i = 1;
-    while i < places.len() {
-        next = put(b',', out, next);
-        next = put_number(places[i], out, next);
-        i += 1;
+
+    fn number(&mut self, n: usize)
+        requires { Room (decimal n) self.old }
+        ensures { Written (decimal n) self.old self.new }
+    {
+        if n < 10 {
+            return self.put(b'0' + n as u8);
+        }
+        self.number(n / 10);
+        self.put(b'0' + (n % 10) as u8);
     }
-    next
+
+    fn level(&mut self, level: i16)
+        requires { Room (signed_decimal level) self.old }
+        ensures { Written (signed_decimal level) self.old self.new }
+    {
+        if level < 0 {
+            self.put(b'-');
+        }
+        self.number(usize::from(level.unsigned_abs()));
+    }
+
+    fn list<T: Printed>(&mut self, items: &[T])
+        requires { Room (parted (map T.text items.now)) self.old }
+        ensures { Written (parted (map T.text items.now)) self.old self.new }
+    {
+        let Some((first, others)) = items.split_first() else {
+            return;
+        };
+        first.print(self);
+        for item in others {
+            self.put(b',');
+            item.print(self);
+        }
+    }
+
+    // NAME, the value and a newline.
+    pub(crate) fn line<T: Printed>(&mut self, name: &[u8], value: T)
+        requires { Room (line name.now (T.text value)) self.old }
+        ensures { Written (line name.now (T.text value)) self.old self.new }
+    {
+        self.text(name);
+        value.print(self);
+        self.put(b'\n');
+    }
 }

@@ -1,10 +1,9 @@
--- The tests of specs/Doors.antt: asked one after the other, as the code asks them; what a call that passes them has, and that a call with all of it
--- passes. Said of any numbers, so that no term is large.
-use Prim.Native.Nat.{ℕ, ◌+◌, ◌-◌, ◌*◌, ◌≤◌, ◌<◌}
-use mathlib.Core.Path.{◌≡◌, refl, sym, ap}
+-- The tests of specs/Doors.antt: what its numbers come to, and that a call with all that is asked passes. Said of any numbers, so that no term is large.
+use Prim.Native.Nat.{ℕ, ◌+◌, ◌-◌, ◌*◌, ◌≤◌}
+use mathlib.Core.Path.{◌≡◌, refl, sym}
 use mathlib.Core.Bool.{Bool, true, false}
 use native.Mathlib.Omega.{arith}
-use borrow.Author.Tests.{le-leb, lt-leb}
+use borrow.Author.Tests.{le-leb}
 use Rattle.plans.specs.Plans.{half_of, keys_size, state_size}
 use Rattle.plans.specs.Forms.{well_formed}
 use Rattle.plans.specs.declared.plan.Plan.{Plan}
@@ -13,26 +12,11 @@ use Rattle.plans.proofs.FormFacts.{Formed}
 use Rattle.plans.proofs.FormTests.{orders_ranked, orders_lines}
 use Rattle.states.specs.Doors.{can_hold}
 use Rattle.states.proofs.DoorTests.{hold_if}
-use Rattle.sweeps.specs.Doors.{states_of, recounted, other_end, room_for, sweepable}
+use Rattle.sweeps.specs.Doors.{states_of, other_end, room_for, sweepable}
 
 -- ---- the parts of a sweep
 
 module _ (p : Plan) where
-  pub origin_back_ranked : p.back ≡ true → p.ranked ≡ true → p.top + p.left ≡ (other_end p p.reach).origin
-  origin_back_ranked a b = rw (a, b) refl
-
-  pub origin_back_lines : p.back ≡ true → p.ranked ≡ false → p.top ≡ (other_end p p.reach).origin
-  origin_back_lines a b = rw (a, b) refl
-
-  pub origin_ranked : p.back ≡ false → p.ranked ≡ true → p.bottom + p.right - 2 ≡ (other_end p p.reach).origin
-  origin_ranked a b = rw (a, b) refl
-
-  pub origin_lines : p.back ≡ false → p.ranked ≡ false → p.bottom - 1 ≡ (other_end p p.reach).origin
-  origin_lines a b = rw (a, b) refl
-
-  pub other_is : (reach : Reach) (origin : ℕ) → origin ≡ (other_end p reach).origin → recounted p reach origin ≡ other_end p reach
-  other_is reach origin e = ap (recounted p reach) e
-
   -- as many lines and ranks as a plate has
   pub orders_few : Formed p → p.orders ≤ 2048
   orders_few f = go p.ranked refl
@@ -68,29 +52,6 @@ module _ (p : Plan) where
 -- ---- a sweep
 
 module _ (p : Plan) (reach : Reach) (work best : ℕ) where
-  pub sweeps_1 : can_hold p 24480 ≡ false → false ≡ sweepable p reach work best
-  unfolding sweepable
-  sweeps_1 a = rw a refl
-
-  pub sweeps_2 : can_hold p 24480 ≡ true → well_formed (other_end p reach) ≡ false → false ≡ sweepable p reach work best
-  unfolding sweepable
-  sweeps_2 a b = rw (a, b) refl
-
-  pub sweeps_3 : can_hold p 24480 ≡ true → well_formed (other_end p reach) ≡ true → (n : ℕ) → n ≡ states_of p → 1024 < n →
-      false ≡ sweepable p reach work best
-  unfolding sweepable
-  sweeps_3 a b n e d = rw (a, b, sym e, lt-leb n 1024 d) refl
-
-  pub sweeps_4 : can_hold p 24480 ≡ true → well_formed (other_end p reach) ≡ true → (n : ℕ) → n ≡ states_of p → n ≤ 1024 →
-      (m : ℕ) → m ≡ room_for p → work < m → false ≡ sweepable p reach work best
-  unfolding sweepable
-  sweeps_4 a b n e d m f g = rw (a, b, sym e, le-leb n 1024 d, sym f, lt-leb m work g) refl
-
-  pub sweeps_5 : can_hold p 24480 ≡ true → well_formed (other_end p reach) ≡ true → (n : ℕ) → n ≡ states_of p → n ≤ 1024 →
-      (m : ℕ) → m ≡ room_for p → m ≤ work → best < keys_size p → false ≡ sweepable p reach work best
-  unfolding sweepable
-  sweeps_5 a b n e d m f g h = rw (a, b, sym e, le-leb n 1024 d, sym f, le-leb m work g, lt-leb (keys_size p) best h) refl
-
   pub sweeps_6 : can_hold p 24480 ≡ true → well_formed (other_end p reach) ≡ true → (n : ℕ) → n ≡ states_of p → n ≤ 1024 →
       (m : ℕ) → m ≡ room_for p → m ≤ work → keys_size p ≤ best → true ≡ sweepable p reach work best
   unfolding sweepable

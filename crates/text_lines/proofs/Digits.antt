@@ -2,20 +2,28 @@
 -- is a single digit.
 use Prim.Native.Nat.{ℕ, ◌+◌, ◌-◌, ◌*◌, ◌^◌, ◌≤◌, ◌<◌}
 use mathlib.Core.Path.{◌≡◌, refl, ◌∙◌}
-use mathlib.Core.Bool.{true, false, cond, ◌&&◌}
+use mathlib.Core.Bool.{Bool, true, false, cond, ◌&&◌}
 use mathlib.Core.List.{List, [], ◌∷◌}
 use mathlib.Core.Option.{Option, none, some}
 use mathlib.Core.Logic.{⊎_elim}
 use native.Mathlib.Numerals.{add-one}
-use native.Mathlib.Nat.{pow-suc, pow-le-pow_right}
+use native.Mathlib.Nat.{pow-suc}
 use native.Mathlib.Omega.{arith}
-use lib.Dec.{leb}
+use lib.Dec.{eqb, leb}
 use lib.ListN.{length, get_or, drop, drop_of_length-le}
 use lib.Seq.{drop-cons}
-use borrow.Author.Tests.{leb-true, le-leb, eq-eqb, ne_eqb}
+use borrow.Author.Tests.{leb-true, le-leb, lt-leb, eq-eqb, ne_eqb}
+use Rattle.std.specs.Bool.{then_some}
+use Rattle.std.specs.Char.{is_ascii_digit}
 use Rattle.basics.proofs.Tests.{true_or_false, and_both, true_T, T_true}
 use Rattle.text_lines.specs.Bytes.{zero_digit}
+use Rattle.text_lines.specs.Answers.{number_read}
 use Rattle.text_lines.specs.Format.{◌>>=◌, max_digits, max_number, is, is_digit, value_after, number, edition}
+
+-- std's test of a digit is the format's
+pub digit_same : (b : ℕ) → is_digit b ≡ is_ascii_digit b
+unfolding is_digit
+digit_same b = refl
 
 pub digit_range : (b : ℕ) → is_digit b ≡ true → (48 ≤ b) × (b ≤ 57)
 unfolding is_digit
@@ -35,10 +43,29 @@ module _ (s : List ℕ) (i v : ℕ) (walk : value_after 0 s ≡ value_after v (d
   unfolding value_after
   valued_end h = walk ∙ rw (drop_of_length-le s h)
 
+-- no number has no digit or more than six
+pub number_empty : (s : List ℕ) → length s ≡ 0 → number s ≡ none
+unfolding number
+number_empty [] h = refl
+number_empty (b ∷ bs) h = absurd (omega arith)
+
+pub filled_in : (s : List ℕ) → eqb (length s) 0 ≡ false → 1 ≤ length s
+filled_in [] e = absurd (let z : ◌≡◌ {A = ℕ} 0 1 = cc in omega arith)
+filled_in (b ∷ bs) e = omega arith
+
+pub number_long : (s : List ℕ) → max_digits < length s → number s ≡ none
+unfolding number
+number_long s h = rw (le-leb 1 (length s) (omega arith), lt-leb (length s) max_digits h)
+
 -- a number of a length that is allowed
 pub number_sized : (s : List ℕ) → 1 ≤ length s → length s ≤ max_digits → number s ≡ (value_after 0 s >>= λ v. cond (leb v max_number) (some v) none)
 unfolding number
 number_sized s h k = rw (le-leb 1 (length s) h, le-leb (length s) max_digits k)
+
+-- what the test at the end makes of the value
+pub small_read : (small : Bool) (v : ℕ) → number_read (then_some small v) ≡ cond small (some v) none
+small_read true v = refl
+small_read false v = refl
 
 -- a number is at most 65,535
 at_most : (o : Option ℕ) (v : ℕ) → some v ≡ (o >>= λ w. cond (leb w max_number) (some w) none) → v ≤ max_number
@@ -58,9 +85,6 @@ number_small s v e =
 -- i digits hold less than 10 ^ i
 pub ten_more : (v d i : ℕ) → v < 10 ^ i → d < 10 → v * 10 + d < 10 ^ (i + 1)
 ten_more v d i h k = rw (add-one, pow-suc 10 i) (omega arith)
-
-pub ten_small : (v i : ℕ) → v < 10 ^ i → i ≤ 6 → v < 1000000
-ten_small v i h k = let p : 10 ^ i ≤ 10 ^ 6 = pow-le-pow_right (omega arith) k in omega arith
 
 -- ---- editions
 

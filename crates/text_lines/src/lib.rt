@@ -7,5 +7,5 @@
 mod number;
 mod value;
 
-pub use number::{Number, edition_in, list_in, number_in};
+pub use number::{edition_in, list_in, number_in};
 pub use value::{Value, value_at};

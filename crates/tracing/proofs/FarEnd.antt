@@ -6,6 +6,7 @@ use mathlib.Core.Bool.{Bool, true, false, cond, true≢false}
 use mathlib.Core.List.{List}
 use native.Mathlib.Omega.{arith}
 use lib.IntN.{ℤ}
+use Rattle.std.specs.Prelude.{Option, Some, IsSome}
 use Rattle.theory.proofs.Towards.{towards_find}
 use Rattle.plans.specs.Plans.{line_at, rows_in, steps_at}
 use Rattle.states.specs.States.{Holds}
@@ -13,16 +14,17 @@ use Rattle.stacks.specs.Stacks.{KeysAre}
 use Rattle.directions.specs.Numbers.{pixel_in}
 use Rattle.directions.proofs.TraceRows.{HasRow}
 use Rattle.frames.specs.Frames.{place_in}
-use Rattle.tracing.specs.Scans.{Sound, bit_of, key_of}
+use Rattle.tracing.specs.Scans.{bit_of, key_of}
+use Rattle.tracing.proofs.Scanned.{Sound}
 use Rattle.tracing.specs.Sights.{Seen, seen_at}
 use Rattle.tracing.specs.Following.{Leads, Stands, EndsAt}
-use Rattle.walks.specs.Picking.{Tells, Picked, OfSteps}
+use Rattle.walks.specs.Picking.{Tells, PickedAt, Picked, OfSteps}
 use Rattle.walks.specs.declared.stand.Stand.{Stand}
 use Rattle.tracing.specs.declared.scan.Scan.{Scan}
 use Rattle.directions.specs.declared.sight.Sight.{Sight}
 use Rattle.walks.specs.Endings.{ended_in}
 use Rattle.theory.specs.Modes.{Levels}
-use Rattle.walks.proofs.Picking.{picked_same}
+use Rattle.walks.proofs.Picking.{picked_same, picked_there}
 use Rattle.tracing.proofs.Modes.{keys_bounded}
 use Rattle.tracing.proofs.Sighting.{sight_planes, sight_sound, sight_states_few}
 use Rattle.tracing.proofs.SeenLaws.{side_keys, to_pixel, seen_ended, seen_first, seen_row}
@@ -98,13 +100,13 @@ module _ (s : Scan) (b : Bool) (plate : List ℤ) (x : ℕ) (r : Sight) (sound :
         omega (arith, m=, subst (λ (e : ℕ). c.row < rows_in r.plan e) e= c.tells.row)
 
     -- what is picked
-    module _ (work : List ℕ) (top want : ℕ) (end : Stand) (is-want : want ≡ cond r.plan.ranked (n + 1) 1)
+    module _ (work : List ℕ) (top want : ℕ) (found : Option Stand) (is-want : want ≡ cond r.plan.ranked (n + 1) 1)
         (held : Holds work top r.plan (want - 1) (seen_at s b plate x r (want - 1))) (kept : KeysAre work r.plan keys)
-        (picked : Picked (OfSteps r.plan n) (ended_in work s.slack top r.plan) r.plan j t end) where
+        (picked : Picked (OfSteps r.plan n) (ended_in work s.slack top r.plan) r.plan j t found) where
       -- by the numbers of the side instead of those of the buffer
-      end_picked : Picked (OfSteps r.plan n) (ended_by s.slack r.plan keys (seen_at s b plate x r)) r.plan j t end
+      end_picked : Picked (OfSteps r.plan n) (ended_by s.slack r.plan keys (seen_at s b plate x r)) r.plan j t found
       end_picked =
-          picked_same (OfSteps r.plan n) (ended_in work s.slack top r.plan) (ended_by s.slack r.plan keys (seen_at s b plate x r)) r.plan j t end
+          picked_same (OfSteps r.plan n) (ended_in work s.slack top r.plan) (ended_by s.slack r.plan keys (seen_at s b plate x r)) r.plan j t found
           (λ e m z row low high a.
           let e= : e ≡ want - 1 = wanted_at r.plan.ranked n e m a.1 a.0 ∙ ap (λ (k : ℕ). k - 1) (sym is-want) in
           ended_held r.plan (sight_sound s sound b x r view) s.slack top e work keys (seen_at s b plate x r)
@@ -112,23 +114,30 @@ module _ (s : Scan) (b : Bool) (plate : List ℤ) (x : ℕ) (r : Sight) (sound :
           (omega (arith, sight_planes s sound b x r view)) low high)
           picked
 
-      end_told : OfSteps r.plan n end.state end.row end.pixel
-          × Tells (ended_by s.slack r.plan keys (seen_at s b plate x r)) r.plan j t end.state end.row end.pixel
-      end_told = let c = some_end in end_picked.fits (end_picked.found c.state c.row c.pixel c.steps c.tells)
+      -- there is one
+      pub end_there : IsSome found
+      end_there = let c = some_end in picked_there _ _ _ _ _ found end_picked c.state c.row c.pixel c.steps c.tells
 
-      pub end_stands : Stands s b plate x r t n end
-      end_stands =
-          let f = end_told in
-          let e= : end.state ≡ cond r.plan.ranked (n + 1) 1 - 1 = wanted_at r.plan.ranked n end.state end.row f.0.1 f.0.0 in
-          record {
-            state = omega (arith, e=, end_few, wanted_some r.plan.ranked n);
-            steps = f.0.0;
-            gaps = omega (arith, end_picked.is_gaps);
-            tells =
-                rw end_picked.is_gaps
-                (record { row = f.1.row; low = f.1.low; high = f.1.high; counts = omega (arith, f.1.counts) });
-          }
+      module _ (end : Stand) (is : found ≡ Some end) where
+        end_told : PickedAt (OfSteps r.plan n) (ended_by s.slack r.plan keys (seen_at s b plate x r)) r.plan j t end
+        end_told = rw is at end_picked
 
-      -- and a path may end there
-      pub end_ends : EndsAt s plate t (place_of r end)
-      end_ends = omega (arith, end_told.1.counts)
+        pub end_stands : Stands s b plate x r t n end
+        end_stands =
+            let f = end_told in
+            let e= : end.state ≡ cond r.plan.ranked (n + 1) 1 - 1 = wanted_at r.plan.ranked n end.state end.row f.among.1 f.among.0 in
+            record {
+              state = omega (arith, e=, end_few, wanted_some r.plan.ranked n);
+              steps = f.among.0;
+              gaps = omega (arith, f.is_gaps);
+              tells =
+                  rw f.is_gaps
+                  (record { row = f.tells.row; low = f.tells.low; high = f.tells.high; counts = omega (arith, f.tells.counts) });
+            }
+
+        -- and a path may end there
+        pub end_ends : EndsAt s plate t (place_of r end)
+        end_ends = omega (arith, end_told.tells.counts)
+
+        pub end_gaps : end.gaps ≡ j
+        end_gaps = end_told.is_gaps

@@ -1,18 +1,23 @@
 -- The best path over all usable directions: what one direction after the other finds, by the setting instead of by a scan.
 use Prim.Native.Nat.{ℕ, ◌+◌, ◌-◌, ◌*◌, ◌^◌, ◌≤◌, ◌<◌}
-use mathlib.Core.Path.{◌≡◌, sym, ◌∙◌}
+use mathlib.Core.Path.{◌≡◌, sym, ap, ◌∙◌}
 use mathlib.Core.Bool.{true, false, true≢false}
 use mathlib.Core.List.{List}
 use mathlib.Core.Logic.{⊎_elim}
 use native.Mathlib.Omega.{arith}
 use lib.IntN.{ℤ}
 use Rattle.basics.proofs.Numbers.{le_or_lt}
+use Rattle.plate.specs.Opening.{level_at}
 use Rattle.plate.specs.Paths.{span}
 use Rattle.plate.specs.declared.setting.Setting.{Setting}
 use Rattle.engine.specs.Finishing.{Accepted}
-use Rattle.tracing.specs.Scans.{Sound, ScanOf, bit_of, key_of}
+use Rattle.frames.specs.Keys.{key_by}
+use Rattle.tracing.specs.Scans.{ScanOf, bit_of, key_of}
+use Rattle.tracing.proofs.Scanned.{Sound}
 use Rattle.tracing.specs.declared.scan.Scan.{Scan}
+use Rattle.std.specs.Prelude.{Some}
 use Rattle.headings.specs.Usable.{usable, FirstUsable}
+use Rattle.headings.proofs.Directions.{usable_listed}
 use Rattle.tracing.specs.Finding.{Attained, FoundIn, FoundAt, BestOf, keys_by}
 use Rattle.tracing.specs.Drawing.{Drawn}
 use Rattle.theory.specs.BestWalks.{gap_end}
@@ -27,7 +32,7 @@ accepted_still W H s plate result work work₁ e a = rw e a
 module _ (r : Scan) (W H : ℕ) (s : Setting) (index : ℕ) (sound : Sound r) (of : ScanOf r W H s index) (long : 1 ≤ s.length) where
   pub scan_keys : (f : List ℤ) → key_of r f ≡ keys_by s.mode f
   unfolding key_of keys_by
-  scan_keys f = rw of.is_setting
+  scan_keys f = let by : Setting → ℕ → ℕ = λ c p. key_by c.mode (level_at f p) in ap by of.is_setting
 
   pub scan_pixels : r.width * r.height ≡ W * H
   scan_pixels = rw (of.is_width, of.is_height)
@@ -62,13 +67,14 @@ module _ (r : Scan) (W H : ℕ) (s : Setting) (index : ℕ) (sound : Sound r) (o
 module _ (W H : ℕ) (s : Setting) (f : List ℤ) (x : ℕ) where
   -- before the first usable direction nothing is to be found
   pub best_first :
-      (first : ℕ) (old new : Found) → FirstUsable W H s first → first < 4 → old.index ≡ first →
+      (first : ℕ) (old new : Found) → FirstUsable W H s (Some first) → old.index ≡ first →
       Attained (gap_end s.ends) W H (s.length - 1) s.gaps (span W H (2 ^ first) - s.length) (keys_by s.mode f) x (2 ^ first) old.key old.before old.gaps →
       FoundAt W H s f x first old new → BestOf W H s f x (first + 1) new
-  best_first first old new u l e a d =
+  best_first first old new u e a d =
+      let l = usable_listed W H s first u.passes in
       record {
         listed = ⊎_elim (λ n. rw n (rw e l)) (λ n. rw n.0 l) d.source;
-        is_usable = ⊎_elim (λ n. rw n (rw e (u.passes l))) (λ n. rw n.0 (u.passes l)) d.source;
+        is_usable = ⊎_elim (λ n. rw n (rw e u.passes)) (λ n. rw n.0 u.passes) d.source;
         attained = ⊎_elim (λ n. rw n (rw e a)) (λ n. rw n.0 n.1) d.source;
         best = λ i h p m k. ⊎_elim (λ c. let same : i ≡ first = omega arith in rw same (d.best m k)) (λ c. absurd (u.none i c p)) (le_or_lt first i);
       }

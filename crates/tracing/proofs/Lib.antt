@@ -1,3 +1,4 @@
+pub mod Scanned
 pub mod Modes
 pub mod Sighting
 pub mod SeenLaws

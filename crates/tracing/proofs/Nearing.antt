@@ -8,22 +8,25 @@ use mathlib.Core.Logic.{⊎_elim}
 use native.Mathlib.Omega.{arith}
 use lib.Dec.{eqb}
 use lib.IntN.{ℤ}
+use Rattle.std.specs.Prelude.{Option, IsSome}
 use borrow.Author.Tests.{eqb-true}
 use Rattle.theory.proofs.WalksTo.{from_last}
 use Rattle.theory.proofs.Towards.{turn_opposite}
 use Rattle.plans.specs.Plans.{line_at, row_lo, row_hi, row_at, rows_in, steps_at}
 use Rattle.directions.specs.Numbers.{pixel_in, number_at, place_kept}
 use Rattle.directions.proofs.TraceTaps.{Leads}
-use Rattle.tracing.specs.Scans.{Sound, bit_of, key_of}
+use Rattle.tracing.specs.Scans.{bit_of, key_of}
+use Rattle.tracing.proofs.Scanned.{Sound}
 use Rattle.tracing.specs.Sights.{Seen, seen_at}
 use Rattle.tracing.specs.Following.{Stands}
-use Rattle.walks.specs.Picking.{Tells, Picked, StepTo, OnRow}
+use Rattle.walks.specs.Picking.{Tells, PickedAt, Picked, StepTo, OnRow}
 use Rattle.walks.specs.declared.stand.Stand.{Stand}
 use Rattle.tracing.specs.declared.scan.Scan.{Scan}
 use Rattle.directions.specs.declared.sight.Sight.{Sight}
 use Rattle.theory.specs.BestWalks.{under, best_walk_to}
 use Rattle.theory.specs.Modes.{Levels}
 use Rattle.theory.specs.Walks.{around, opposite}
+use Rattle.walks.proofs.Picking.{picked_there}
 use Rattle.tracing.proofs.Sources.{Source, to_tap, source, later_row}
 use Rattle.tracing.proofs.Sighting.{sight_planes, sight_across, sight_sound, sight_states_few, sight_sequence}
 use Rattle.tracing.proofs.SeenLaws.{seen_pixels, seen_first, seen_more_gaps, seen_tap_0, seen_tap_1, seen_tap_2}
@@ -129,34 +132,34 @@ module _ (s : Scan) (b : Bool) (plate : List ℤ) (x : ℕ) (r : Sight) (sound :
     gap_left = sources.0
 
     -- what is picked among the pixels to which a step leads
-    module _ (left : ℕ) (is-left : left ≡ stand.gaps - under t (key_of s plate (place_of r stand))) (to : Stand)
-        (picked : Picked (StepTo r.plan (with_gaps stand left)) (seen_at s b plate x r) r.plan left t to) where
-      fits : StepTo r.plan (with_gaps stand left) to.state to.row to.pixel
-          × Tells (seen_at s b plate x r) r.plan left t to.state to.row to.pixel
-      fits =
+    module _ (left : ℕ) (is-left : left ≡ stand.gaps - under t (key_of s plate (place_of r stand))) where
+      -- there is one
+      pub nearer_there :
+          (found : Option Stand) → Picked (StepTo r.plan (with_gaps stand left)) (seen_at s b plate x r) r.plan left t found → IsSome found
+      nearer_there found picked =
           let c = sources.1 left in
-          picked.fits
-          (picked.found c.state c.row c.pixel c.led
-          (subst (λ (i : ℕ). Tells (seen_at s b plate x r) r.plan i t c.state c.row c.pixel) (sym is-left) c.tells))
+          picked_there _ _ _ _ _ found picked c.state c.row c.pixel c.led
+          (subst (λ (i : ℕ). Tells (seen_at s b plate x r) r.plan i t c.state c.row c.pixel) (sym is-left) c.tells)
 
-      there : Leads r.frame r.plan (opposite b) W H s.index stand.state stand.row stand.pixel to.state to.row to.pixel
-      there = led left to.state to.row to.pixel fits.1.row fits.1.low fits.1.high fits.0
+      module _ (to : Stand) (picked : PickedAt (StepTo r.plan (with_gaps stand left)) (seen_at s b plate x r) r.plan left t to) where
+        there : Leads r.frame r.plan (opposite b) W H s.index stand.state stand.row stand.pixel to.state to.row to.pixel
+        there = led left to.state to.row to.pixel picked.tells.row picked.tells.low picked.tells.high picked.among
 
-      earlier : to.state ≤ stand.state
-      earlier =
-          ⊎_elim (λ o. omega (arith, o.state)) (λ o. ⊎_elim (λ o. omega (arith, o.state)) (λ o. omega (arith, o.state)) o) fits.0
+        earlier : to.state ≤ stand.state
+        earlier =
+            ⊎_elim (λ o. omega (arith, o.state)) (λ o. ⊎_elim (λ o. omega (arith, o.state)) (λ o. omega (arith, o.state)) o) picked.among
 
-      pub nearer_stands : Stands s b plate x r t k to
-      nearer_stands =
-          record {
-            state = omega (arith, earlier, d.state);
-            steps = omega (arith, there.fewer, d.steps);
-            gaps = omega (arith, picked.is_gaps, d.gaps);
-            tells = rw picked.is_gaps fits.1;
-          }
+        pub nearer_stands : Stands s b plate x r t k to
+        nearer_stands =
+            record {
+              state = omega (arith, earlier, d.state);
+              steps = omega (arith, there.fewer, d.steps);
+              gaps = omega (arith, picked.is_gaps, d.gaps);
+              tells = rw picked.is_gaps picked.tells;
+            }
 
-      -- and the pixel that is left is a neighbour of the one that is come to
-      pub nearer_place : Memᴰ (place_of r stand) (around b W H (bit_of s) (place_of r to))
-      nearer_place =
-          let on = (seen_pixels s sound b x r view to.state to.row to.pixel fits.1.row fits.1.low fits.1.high).key_place in
-          rw (place_is, on) (turn_opposite b W H (bit_of s) _ _ there.next)
+        -- and the pixel that is left is a neighbour of the one that is come to
+        pub nearer_place : Memᴰ (place_of r stand) (around b W H (bit_of s) (place_of r to))
+        nearer_place =
+            let on = (seen_pixels s sound b x r view to.state to.row to.pixel picked.tells.row picked.tells.low picked.tells.high).key_place in
+            rw (place_is, on) (turn_opposite b W H (bit_of s) _ _ there.next)

@@ -5,9 +5,7 @@ use mathlib.Core.Path.{◌≡◌}
 use mathlib.Core.Bool.{Bool, true, false}
 use mathlib.Core.List.{List}
 use mathlib.Core.Logic.{inl, inr, ⊎_elim}
-use native.Mathlib.Nat.{add_assoc}
 use native.Mathlib.Omega.{arith}
-use lib.ListN.{get_or}
 use Rattle.basics.proofs.Numbers.{le_or_lt}
 use Rattle.plate.specs.Paths.{next, span}
 use Rattle.theory.proofs.Ranks.{bit_listed}
@@ -15,8 +13,8 @@ use Rattle.theory.proofs.LevelSets.{reach_none}
 use Rattle.theory.proofs.Sides.{Side, side}
 use Rattle.walks.specs.Searching.{shared_at, term_at, Possible, FromNotes, Searched}
 use Rattle.walks.specs.declared.found.Found.{Found}
-use Rattle.walks.specs.declared.found.Notes.{Notes}
-use Rattle.tracing.specs.Finding.{Noted, Attained, FoundIn}
+use Rattle.walks.specs.declared.found.Paths.{Paths}
+use Rattle.tracing.specs.Finding.{cells, Noted, Attained, FoundIn}
 use Rattle.theory.specs.Walks.{back, around}
 use Rattle.theory.specs.Ranks.{rank}
 use Rattle.theory.specs.BestWalks.{best_walk, term}
@@ -51,17 +49,17 @@ module _ (slack W H m k spare : ℕ) (g : ℕ → ℕ) (x index : ℕ) (listed :
       (λ a. omega (arith, too_many l i a))
       (le_or_lt l place)
 
-  module _ (work : List ℕ) (n : Notes) (own : ℕ) (is_steps : n.steps ≡ m) (is_gaps : n.gaps ≡ k) (is-own : own ≡ g x)
-      (ends : Noted slack (λ (q : ℕ). get_or work (n.ends + q) 0) W H bit true g k m x)
-      (goes : Noted slack (λ (q : ℕ). get_or work (n.goes + q) 0) W H bit false g k m x) where
-    term_is : (l i : ℕ) → Possible m spare place l → i ≤ k → term_at work n own l i ≡ min (g x) (term slack W H bit m k g x l i)
+  module _ (ending going : List ℕ) (n : Paths) (own : ℕ) (is_steps : n.steps ≡ m) (is_gaps : n.gaps ≡ k) (is-own : own ≡ g x)
+      (ends : Noted slack (cells ending) W H bit true g k m x)
+      (goes : Noted slack (cells going) W H bit false g k m x) where
+    term_is : (l i : ℕ) → Possible m spare place l → i ≤ k → term_at ending going n own l i ≡ min (g x) (term slack W H bit m k g x l i)
     unfolding shared_at around
     term_is l i p u =
         let e = ends.is l i p.of_path u in
         let f = goes.is (m - l) (k - i) (omega arith) (omega arith) in
-        rw (is_steps, is_gaps, is-own, add_assoc n.ends (l * (k + 1)) i, add_assoc n.goes ((m - l) * (k + 1)) (k - i), e, f)
+        rw (is_steps, is_gaps, is-own, e, f)
 
-    found_attained : (new : Found) → FromNotes (term_at work n own) m k spare place index new → Attained slack W H m k spare g x bit new.key new.before new.gaps
+    found_attained : (new : Found) → FromNotes (term_at ending going n own) m k spare place index new → Attained slack W H m k spare g x bit new.key new.before new.gaps
     unfolding around
     found_attained new f =
         let p = f.possible in
@@ -81,7 +79,7 @@ module _ (slack W H m k spare : ℕ) (g : ℕ → ℕ) (x index : ℕ) (listed :
         }
 
     none_better :
-        (old new : Found) → Searched (term_at work n own) m k spare place index (m + 1) old new → (l i : ℕ) → l ≤ m → i ≤ k →
+        (old new : Found) → Searched (term_at ending going n own) m k spare place index (m + 1) old new → (l i : ℕ) → l ≤ m → i ≤ k →
         min (g x) (term slack W H bit m k g x l i) ≤ new.key
     none_better old new d l i u v =
         ⊎_elim
@@ -93,7 +91,7 @@ module _ (slack W H m k spare : ℕ) (g : ℕ → ℕ) (x index : ℕ) (listed :
         (λ a. omega (arith, term_none l i u (λ p. omega (arith, p.behind))))
         (le_or_lt l place)
 
-    pub searched_found : (old new : Found) → Searched (term_at work n own) m k spare place index (m + 1) old new → FoundIn slack W H m k spare g x index old new
+    pub searched_found : (old new : Found) → Searched (term_at ending going n own) m k spare place index (m + 1) old new → FoundIn slack W H m k spare g x index old new
     searched_found old new d =
         record {
           not_below = d.not_below;

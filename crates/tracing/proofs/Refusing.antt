@@ -1,25 +1,26 @@
 -- The checks of the trace: 1 to 8, as every call has them, then the place and the path. Which of them decides; and what holds of a trace that they let
 -- pass.
-use Prim.Native.Nat.{ℕ, ◌*◌, ◌≤◌, ◌<◌}
-use mathlib.Core.Path.{◌≡◌, sym, ap, ◌∙◌}
-use mathlib.Core.Bool.{true, false, not, true≢false}
+use Prim.Native.Nat.{ℕ, ◌*◌, ◌<◌}
+use mathlib.Core.Path.{◌≡◌, sym}
+use mathlib.Core.Bool.{true, false, not}
 use mathlib.Core.List.{List, [], ◌∷◌, ◌++◌}
-use mathlib.Core.Logic.{⊎_elim}
 use lib.ListN.{length}
 use lib.IntN.{ℤ}
-use borrow.Author.Tests.{le-leb, lt-leb, leb-false}
-use Rattle.basics.proofs.Numbers.{le_or_lt}
+use borrow.Author.Tests.{lt-leb}
 use Rattle.plate.specs.Paths.{crossed}
 use Rattle.plate.specs.Opening.{level_at, filtered}
-use Rattle.plate.specs.RefusalNumbers.{refusal_place, refusal_no_path}
+use Rattle.plate.specs.RefusalNumbers.{refusal_no_path}
 use Rattle.plate.specs.Refusals.{Verdict, Verdict.accepted, Verdict.refused, Check, judged, Clear, place_check, path_check, filter_checks, trace_checks, trace_verdict}
-use Rattle.plate.specs.Answers.{call_verdict}
+use Rattle.plate.specs.Answers.{number_by, call_verdict}
 use Rattle.plate.specs.Calls.{Passed}
+use Rattle.plate.specs.declared.refusal.Reason.TheVariants.{NoPath}
+use Rattle.plate.specs.declared.refusal.Refusal.{Refusal}
 use Rattle.plate.specs.declared.setting.Setting.{Setting}
 use Rattle.plate.specs.declared.call.Fills.TheVariants.{Path as Places}
 use Rattle.plate.specs.declared.call.Lent.{Lent}
-use Rattle.plate.proofs.Verdicts.{clear_accepted, accepted_clear, refused_first, refused_same, refused_next, clear_both, clear_first, clear_second}
+use Rattle.plate.proofs.Verdicts.{check_refuses, clear_accepted, refused_first, refused_same, refused_next, clear_both}
 use Rattle.plate.proofs.Calls.{call_clear, passed}
+use Rattle.std.specs.Prelude.{Option, Some, None, Result, ok_or, MatchResult}
 use Rattle.headings.specs.Usable.{FirstUsable}
 use Rattle.headings.proofs.Directions.{usable_crosses, none_crosses}
 
@@ -53,40 +54,32 @@ module _ (W H : ℕ) (s : Setting) (plate x room work : ℕ) where
     pub passed_eight : Passed W H s plate s.length room work
     passed_eight = passed W H s plate s.length room work clear_eight
 
-    pub refused_place : W * H ≤ x → refused refusal_place 0 ≡ verdict
-    refused_place l = refused_next tt eight place (crossing ∷ []) clear_eight (le-leb (W * H) x l)
+    -- by the length of the plate that was handed in
+    pub refused_place :
+        {n p : ℕ} → plate ≡ W * H → ◌≡◌ {A = Verdict (Unit {0})} (refused n p) (judged (place_check plate x ∷ []) tt) → refused n p ≡ verdict
+    refused_place same e = check_refuses tt eight place (crossing ∷ []) clear_eight (rw same at e)
 
-    module _ (on : x < W * H) (first : ℕ) (usable : FirstUsable W H s first) where
+    module _ (on : x < W * H) where
       clear_nine : Clear (eight ++ (place ∷ []))
       clear_nine = clear_both eight (place ∷ []) clear_eight (lt-leb (W * H) x on, tt)
 
-      pub refused_no_path : 4 ≤ first → refused refusal_no_path 0 ≡ verdict
-      refused_no_path l =
-          let e : not (crossed W H s.directions s.length x) ≡ true = rw (none_crosses W H s x passed_eight.size on passed_eight.long first usable l) in
+      pub refused_no_path : FirstUsable W H s None → refused refusal_no_path 0 ≡ verdict
+      refused_no_path none =
+          let e : not (crossed W H s.directions s.length x) ≡ true = rw (none_crosses W H s x passed_eight.size on passed_eight.long none) in
           refused_next tt (eight ++ (place ∷ [])) crossing [] clear_nine e
 
-      pub all_passed : first < 4 → accepted tt ≡ verdict
-      all_passed l =
-          let e : not (crossed W H s.directions s.length x) ≡ false = rw (usable_crosses W H s x passed_eight.size on passed_eight.long first usable l) in
-          sym (clear_accepted (trace_checks W H s plate x room work) tt (clear_both (eight ++ (place ∷ [])) (crossing ∷ []) clear_nine (e, tt)))
+      pub all_clear : (first : ℕ) → FirstUsable W H s (Some first) → Clear (trace_checks W H s plate x room work)
+      all_clear first usable =
+          let e : not (crossed W H s.directions s.length x) ≡ false = rw (usable_crosses W H s x passed_eight.size on passed_eight.long first usable) in
+          clear_both (eight ++ (place ∷ [])) (crossing ∷ []) clear_nine (e, tt)
 
-  -- ---- a trace that they let pass
-
-  pub let_pass : accepted tt ≡ verdict → Clear (trace_checks W H s plate x room work)
-  let_pass e = (accepted_clear (trace_checks W H s plate x room work) tt tt (sym e)).1
-
-  module _ (clear : Clear (trace_checks W H s plate x room work)) where
-    pub passed_first : Passed W H s plate s.length room work
-    passed_first = passed W H s plate s.length room work (clear_first eight (place ∷ crossing ∷ []) clear)
-
-    -- has a direction in which it can look
-    pub has_direction : (first : ℕ) → FirstUsable W H s first → first < 4
-    has_direction first usable =
-        let last = clear_second eight (place ∷ crossing ∷ []) clear in
-        let on : x < W * H = leb-false (W * H) x last.0 in
-        ⊎_elim
-        (λ l. absurd (true≢false (sym (ap not (none_crosses W H s x passed_first.size on passed_first.long first usable l)) ∙ last.1.0)))
-        (λ l. l) (le_or_lt 4 first)
+      -- the first usable direction decides the last check
+      pub path_decides :
+          (r : Option ℕ) → FirstUsable W H s r → (answer : Result ℕ Refusal) → answer ≡ ok_or r (record { reason = NoPath; place = 0 }) →
+          MatchResult answer (λ first. Clear (trace_checks W H s plate x room work) × FirstUsable W H s (Some first))
+          (λ r. refused (number_by r.reason) r.place ≡ verdict)
+      path_decides None none answer e = rw e (refused_no_path none)
+      path_decides (Some first) usable answer e = rw e (all_clear first usable, usable)
 
 -- ---- what the trace answers
 

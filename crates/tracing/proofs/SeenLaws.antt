@@ -17,7 +17,8 @@ use Rattle.directions.specs.Plans.{by_rows}
 use Rattle.directions.proofs.TraceRows.{HasRow, trace_first}
 use Rattle.directions.proofs.TracePlans.{PixelOn, trace_pixels}
 use Rattle.directions.proofs.TraceTaps.{Tap, Leads, first_tap, second_tap, third_tap}
-use Rattle.tracing.specs.Scans.{Sound, bit_of, key_of}
+use Rattle.tracing.specs.Scans.{bit_of, key_of}
+use Rattle.tracing.proofs.Scanned.{Sound}
 use Rattle.tracing.specs.Sights.{Seen, seen_at}
 use Rattle.tracing.specs.declared.scan.Scan.{Scan}
 use Rattle.directions.specs.declared.sight.Sight.{Sight}

@@ -12,12 +12,12 @@ use lib.IntN.{ℤ}
 use Rattle.basics.proofs.Numbers.{le_or_lt, rows_fit}
 use Rattle.theory.proofs.Towards.{towards_best}
 use Rattle.frames.specs.Frames.{place_in}
-use Rattle.states.specs.Runs.{Between, Apart}
 use Rattle.plans.specs.Plans.{line_at, steps_at, keys_size}
 use Rattle.stacks.proofs.StackLaws.{keys_apart}
 use Rattle.directions.specs.Numbers.{pixel_in}
 use Rattle.directions.proofs.TraceRows.{HasRow}
-use Rattle.tracing.specs.Scans.{Sound, bit_of, key_of, KeysLaid}
+use Rattle.tracing.specs.Scans.{bit_of, key_of, KeysLaid}
+use Rattle.tracing.proofs.Scanned.{Sound}
 use Rattle.tracing.specs.Sights.{Seen, seen_at}
 use Rattle.walks.specs.Noting.{Lifted, steps_past}
 use Rattle.walks.proofs.Noting.{past_most}
@@ -48,8 +48,8 @@ module _ (s : Scan) (sound : Sound s) (backwards : Bool) (x : ℕ) (r : Sight) (
 
   -- the notes of every row find room
   pub notes_fit :
-      (e to size : ℕ) → e < r.states → to + (s.steps + 1) * (s.setting.gaps + 1) ≤ size → to + steps_past r.plan e * r.plan.planes ≤ size
-  notes_fit e to size h room =
+      (e size : ℕ) → e < r.states → (s.steps + 1) * (s.setting.gaps + 1) ≤ size → steps_past r.plan e * r.plan.planes ≤ size
+  notes_fit e size h room =
       let few =
       past_most r.plan e (s.steps + 1) (omega (arith, sight_states_short s sound backwards x r seen))
       (λ m k. sight_steps_few s sound backwards x r seen e m h k) in
@@ -59,9 +59,9 @@ module _ (s : Scan) (sound : Sound s) (backwards : Bool) (x : ℕ) (r : Sight) (
             (omega (arith, sight_planes s sound backwards x r seen)),
       )
 
-  module _ (plate : List ℤ) (levels : Levels plate) (on : x < s.width * s.height) (to : ℕ) (old mid new : List ℕ)
-      (zeros : Between (λ (q : ℕ). 0) old mid to (to + (s.steps + 1) * (s.setting.gaps + 1)))
-      (d : Lifted (FromSide r.plan (ended_by s.slack r.plan (side_keys s sound backwards x r seen plate levels) (seen_at s backwards plate x r)) to r.states) mid new) where
+  module _ (plate : List ℤ) (levels : Levels plate) (on : x < s.width * s.height) (mid new : List ℕ)
+      (zeros : (q : ℕ) → q < (s.steps + 1) * (s.setting.gaps + 1) → get_or mid q 0 ≡ 0)
+      (d : Lifted (FromSide r.plan (ended_by s.slack r.plan (side_keys s sound backwards x r seen plate levels) (seen_at s backwards plate x r)) r.states) mid new) where
     abbrev best : ℕ → ℕ → ℕ → ℕ
     best l j q = to_pixel s sound backwards x r seen plate levels l j q
 
@@ -69,10 +69,10 @@ module _ (s : Scan) (sound : Sound s) (backwards : Bool) (x : ℕ) (r : Sight) (
     numbers = ended_by s.slack r.plan (side_keys s sound backwards x r seen plate levels) (seen_at s backwards plate x r)
 
     abbrev From : ℕ → ℕ → Type 0
-    From q v = FromSide r.plan numbers to r.states q v
+    From q v = FromSide r.plan numbers r.states q v
 
     abbrev note_of : ℕ → ℕ → ℕ
-    note_of l j = to + (l * planes + j)
+    note_of l j = l * planes + j
 
     -- what is noted of a pixel is the number of its row
     seen_is : (l j i z : ℕ) (h : HasRow r.frame r.plan r.states l i z) → best l j (place_in r.frame i z) ≡ numbers h.state h.row j z
@@ -122,11 +122,11 @@ module _ (s : Scan) (sound : Sound s) (backwards : Bool) (x : ℕ) (r : Sight) (
     least : (l j : ℕ) → l ≤ s.steps → j ≤ s.setting.gaps → (get_or new (note_of l j) 0 ≡ 0) ⊎ ((q : ℕ) × (get_or new (note_of l j) 0 ≡ best l j q))
     least l j hl hj =
         ⊎_elim
-        (λ e. inl (e ∙ zeros.inside (note_of l j) (omega arith) (omega (arith, rows_fit l 1 (s.steps + 1) planes (omega arith)))))
+        (λ e. inl (e ∙ zeros (note_of l j) (omega (arith, rows_fit l 1 (s.steps + 1) planes (omega arith)))))
         (λ f. inr (from_note l j (get_or new (note_of l j) 0) hj f))
         (d.source (note_of l j))
 
-    side_noted : Noted s.slack (cells new to) s.width s.height (bit_of s) backwards (key_of s plate) s.setting.gaps s.steps x
+    side_noted : Noted s.slack (cells new) s.width s.height (bit_of s) backwards (key_of s plate) s.setting.gaps s.steps x
     side_noted =
         record {
           is = λ l j hl hj.
@@ -135,35 +135,16 @@ module _ (s : Scan) (sound : Sound s) (backwards : Bool) (x : ℕ) (r : Sight) (
               (λ q hq. upper l j q hl hj hq) (least l j hl hj);
         }
 
-    -- where a number is noted
-    noted_within : (q v : ℕ) → From q v → (to ≤ q) × (q < to + (s.steps + 1) * (s.setting.gaps + 1))
-    noted_within q v f =
-        let n = f.number.number in
-        let st = steps_at r.plan f.state f.number.row in
-        let here : q ≡ to + st * planes + n.plane = rw (sight_planes s sound backwards x r seen) at n.at in
-        let few : n.plane < planes = rw (sight_planes s sound backwards x r seen) at n.plane_below in
-        let steps = sight_steps_few s sound backwards x r seen f.state f.number.row f.state_below f.number.row_below in
-        (omega (arith, here), omega (arith, here, few, rows_fit st 1 (s.steps + 1) planes (omega (arith, steps))))
-
-    side_apart : Apart old new to (to + (s.steps + 1) * (s.setting.gaps + 1))
-    side_apart =
-        record {
-          under = λ q h. ⊎_elim (λ e. e ∙ zeros.under q h) (λ f. absurd (omega (arith, noted_within q (get_or new q 0) f))) (d.source q);
-          over = λ q h. ⊎_elim (λ e. e ∙ zeros.over q h) (λ f. absurd (omega (arith, noted_within q (get_or new q 0) f))) (d.source q);
-          len = d.len ∙ zeros.len;
-        }
-
   -- all states of the side are noted, and stand behind the keys
   pub side_notes :
-      (plate : List ℤ) → x < s.width * s.height → (to : ℕ) (work work' old mid new : List ℕ) → KeysLaid s plate work →
-      Between (λ (q : ℕ). 0) old mid to (to + (s.steps + 1) * (s.setting.gaps + 1)) →
-      SideNoted r.plan s.slack r.states to (keys_size r.plan) r.states work work' mid new → NotedSide s backwards plate x to work' old new
-  side_notes plate on to work work' old mid new laid zeros d =
+      (plate : List ℤ) → x < s.width * s.height → (work work' mid new : List ℕ) → KeysLaid s plate work →
+      ((q : ℕ) → q < (s.steps + 1) * (s.setting.gaps + 1) → get_or mid q 0 ≡ 0) →
+      SideNoted r.plan s.slack r.states (keys_size r.plan) r.states work work' mid new → NotedSide s backwards plate x work' new
+  side_notes plate on work work' mid new laid zeros d =
       let keys = sight_keys s sound backwards x r seen plate work laid in
       let notes = (d.is _ _ keys (sight_sequence s sound backwards x r seen plate)).1 in
       record {
-        noted = side_noted plate laid.levels on to old mid new zeros notes;
-        apart = side_apart plate laid.levels on to old mid new zeros notes;
+        noted = side_noted plate laid.levels on mid new zeros notes;
         left =
             keys_laid s sound backwards x r seen plate work' laid.levels
             (keys_apart r.plan (sight_sound s sound backwards x r seen) work work' _ _ _ d.apart (omega arith) keys);
@@ -174,13 +155,3 @@ module _ (s : Scan) (sound : Sound s) (backwards : Bool) (x : ℕ) (r : Sight) (
 -- the notes of one side find room
 pub notes_small : (steps gaps : ℕ) → steps < 1024 → gaps ≤ 8 → (steps + 1) * (gaps + 1) ≤ 9216
 notes_small steps gaps h k = mul-le-mul {n₁ = steps + 1} {m₁ = gaps + 1} {n₂ = 1024} {m₂ = 9} (omega arith) (omega arith)
-
--- a change after them leaves the notes alone
-pub noted_apart :
-    (slack W H bit : ℕ) (backwards : Bool) (g : ℕ → ℕ) (k m x at lo hi : ℕ) (old new : List ℕ) → Apart old new lo hi → at + (m + 1) * (k + 1) ≤ lo →
-    Noted slack (cells old at) W H bit backwards g k m x → Noted slack (cells new at) W H bit backwards g k m x
-noted_apart slack W H bit backwards g k m x at lo hi old new a h noted =
-    record {
-      is = λ l j hl hj.
-          a.under (at + (l * (k + 1) + j)) (omega (arith, rows_fit l 1 (m + 1) (k + 1) (omega arith))) ∙ noted.is l j hl hj;
-    }

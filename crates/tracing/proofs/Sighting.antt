@@ -8,6 +8,7 @@ use native.Mathlib.Omega.{arith}
 use lib.ListN.{length}
 use lib.IntN.{ℤ}
 use lib.Signed.{mag}
+use Rattle.std.specs.Prelude.{Some, IsSome}
 use Rattle.plate.specs.Opening.{level_at}
 use Rattle.theory.proofs.Opening.{levels_within}
 use Rattle.theory.proofs.Towards.{towards}
@@ -23,14 +24,15 @@ use Rattle.directions.specs.Plans.{by_rows}
 use Rattle.directions.specs.Numbers.{KeptOn, place_kept, keys_by}
 use Rattle.directions.specs.Doors.{frame_of, spot_of, fits, lays, Laid, sight_of}
 use Rattle.directions.proofs.DoorLaws.{fits_if, lays_if}
-use Rattle.directions.proofs.SightLaws.{sight_told}
+use Rattle.directions.proofs.SightLaws.{sight_there, sight_told}
 use Rattle.directions.proofs.TableLaws.{frame_told}
 use Rattle.directions.proofs.TraceLaws.{spot_known}
 use Rattle.directions.proofs.KeptLaws.{kept_line, kept_rank, inside_line, inside_rank}
 use Rattle.directions.proofs.TraceRows.{HasRow, trace_rows}
 use Rattle.directions.proofs.RoomLaws.{Roomy}
 use Rattle.directions.proofs.TracePlans.{trace_planes, trace_slack, trace_lines, trace_across, trace_ranked, trace_states_few, trace_steps_few, trace_formed, trace_room, trace_sequence}
-use Rattle.tracing.specs.Scans.{Sound, bit_of, key_of, KeysLaid}
+use Rattle.tracing.specs.Scans.{bit_of, key_of, KeysLaid}
+use Rattle.tracing.proofs.Scanned.{Sound}
 use Rattle.tracing.specs.Sights.{Seen, seen_at}
 use Rattle.tracing.specs.declared.scan.Scan.{Scan}
 use Rattle.directions.specs.declared.sight.Sight.{Sight}
@@ -50,9 +52,13 @@ scan_fits s sound =
       long = omega (arith, sound.is_length, sound.long);
     })
 
--- what is seen from a pixel of the plate
+-- from a pixel of the plate there is something to see
+pub seen_there : (s : Scan) → Sound s → (backwards : Bool) (x : ℕ) → x < s.width * s.height → IsSome (sight_of s.width s.height s.setting s.index backwards x)
+seen_there s sound backwards x on = sight_there s.width s.height s.setting s.index backwards x (scan_fits s sound) on
+
+-- what is seen
 pub seen_by : (s : Scan) → Sound s → (backwards : Bool) (x : ℕ) → x < s.width * s.height → (r : Sight) →
-    r ≡ sight_of s.width s.height s.setting s.index backwards x → Seen s backwards x r
+    Some r ≡ sight_of s.width s.height s.setting s.index backwards x → Seen s backwards x r
 seen_by s sound backwards x on r e =
     let told = sight_told s.width s.height s.setting s.index backwards x (scan_fits s sound) on r e in
     let known = frame_told s.width s.height sound.size r.frame s.index sound.known told.0 in

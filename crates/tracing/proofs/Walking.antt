@@ -7,6 +7,7 @@ use mathlib.Core.List.{List}
 use native.Mathlib.Omega.{arith}
 use lib.ListN.{length, get_or, set}
 use lib.IntN.{ℤ}
+use Rattle.std.specs.Prelude.{Option, Some, IsSome}
 use Rattle.basics.proofs.Numbers.{rows_fit}
 use Rattle.plans.specs.Plans.{state_size, keys_size}
 use Rattle.states.specs.States.{Holds}
@@ -15,11 +16,12 @@ use Rattle.plans.specs.declared.plan.Plan.{Plan}
 use Rattle.stacks.specs.declared.stack.Stack.{Stack}
 use Rattle.directions.specs.Numbers.{place_kept}
 use Rattle.directions.proofs.RoomLaws.{Roomy}
-use Rattle.tracing.specs.Scans.{Sound, bit_of, key_of, KeysLaid}
+use Rattle.tracing.specs.Scans.{bit_of, key_of, KeysLaid}
+use Rattle.tracing.proofs.Scanned.{Sound}
 use Rattle.tracing.specs.Sights.{Seen, seen_at}
 use Rattle.headings.specs.Trails.{Within, Trail, index_after}
 use Rattle.tracing.specs.Following.{low_along, Stands, Kept, EndsAt}
-use Rattle.walks.specs.Picking.{stored_at, Picked, StepTo}
+use Rattle.walks.specs.Picking.{stored_at, PickedAt, Picked, StepTo}
 use Rattle.walks.specs.declared.stand.Stand.{Stand}
 use Rattle.tracing.specs.declared.scan.Scan.{Scan}
 use Rattle.directions.specs.declared.sight.Sight.{Sight}
@@ -28,7 +30,7 @@ use Rattle.theory.specs.Modes.{Levels}
 use Rattle.tracing.proofs.Inward.{Inward, inward_nearer, inward_trail, inward_few, inward_end}
 use Rattle.walks.proofs.Picking.{picked_held}
 use Rattle.tracing.proofs.Sighting.{sight_planes, sight_keys, sight_sequence}
-use Rattle.tracing.proofs.Nearing.{place_of, with_gaps, stand_picked, step_wanted, gap_left, nearer_stands, nearer_place}
+use Rattle.tracing.proofs.Nearing.{place_of, with_gaps, stand_picked, step_wanted, gap_left, nearer_there, nearer_stands, nearer_place}
 
 -- ---- the stack
 
@@ -143,47 +145,59 @@ module _ (s : Scan) (b : Bool) (plate : List ℤ) (x : ℕ) (r : Sight) (sound :
         (inward : Inward s.slack s.width s.height (bit_of s) b (key_of s plate) t old start m gaps path (suc k) (place_of r stand) stand.gaps)
         (left : ℕ) (is-left : left ≡ stand.gaps - under t (key_of s plate (place_of r stand))) (work : List ℕ) (top want : ℕ)
         (is-want : want ≡ cond r.plan.ranked stand.state 1)
-        (held : Holds work top r.plan (want - 1) (seen_at s b plate x r (want - 1))) (to : Stand)
-        (picked : Picked (StepTo r.plan (with_gaps stand left)) (stored_at work top r.plan) r.plan left t to) where
-      seen_picked : Picked (StepTo r.plan (with_gaps stand left)) (seen_at s b plate x r) r.plan left t to
+        (held : Holds work top r.plan (want - 1) (seen_at s b plate x r (want - 1))) (found : Option Stand)
+        (picked : Picked (StepTo r.plan (with_gaps stand left)) (stored_at work top r.plan) r.plan left t found) where
+      seen_picked : Picked (StepTo r.plan (with_gaps stand left)) (seen_at s b plate x r) r.plan left t found
       seen_picked =
           picked_held work top r.plan (seen_at s b plate x r) left t (omega (arith, d.gaps, sight_planes s sound b x r view))
-          (StepTo r.plan (with_gaps stand left)) to
+          (StepTo r.plan (with_gaps stand left)) found
           (λ e n z row low high step.
           let e= : e ≡ want - 1 =
           step_wanted s b plate x r sound levels view t positive (suc k) stand d left e n z row low high step ∙ ap (λ (i : ℕ). i - 1) (sym is-want) in
           rw e= held)
           picked
 
-      walk_stands : Stands s b plate x r t k to
-      walk_stands = nearer_stands s b plate x r sound levels view t positive (suc k) stand d k refl left is-left to seen_picked
+      pub walk_there : IsSome found
+      walk_there = nearer_there s b plate x r sound levels view t positive (suc k) stand d k refl left is-left found seen_picked
 
-      walk_inward :
-          (i place : ℕ) → i ≡ index_after b start (suc k) → place ≡ place_of r stand →
-          Inward s.slack s.width s.height (bit_of s) b (key_of s plate) t old start m gaps (set path i place) k (place_of r to) to.gaps
-      walk_inward i place is-i is_place =
-          rw (is-i, is_place)
-          (inward_nearer s.slack s.width s.height (bit_of s) b (key_of s plate) t old start m gaps within path k (place_of r stand) stand.gaps
-          (place_of r to) to.gaps h inward (nearer_place s b plate x r sound levels view t positive (suc k) stand d k refl left is-left to seen_picked)
-          (omega (arith, seen_picked.is_gaps, gap_left s b plate x r sound levels view t positive (suc k) stand d k refl)))
+      module _ (to : Stand) (is : found ≡ Some to) where
+        to_picked : PickedAt (StepTo r.plan (with_gaps stand left)) (seen_at s b plate x r) r.plan left t to
+        to_picked = rw is at seen_picked
+
+        pub walk_stands : Stands s b plate x r t k to
+        walk_stands = nearer_stands s b plate x r sound levels view t positive (suc k) stand d k refl left is-left to to_picked
+
+        pub walk_inward :
+            (i place : ℕ) → i ≡ index_after b start (suc k) → place ≡ place_of r stand →
+            Inward s.slack s.width s.height (bit_of s) b (key_of s plate) t old start m gaps (set path i place) k (place_of r to) to.gaps
+        walk_inward i place is-i is_place =
+            rw (is-i, is_place)
+            (inward_nearer s.slack s.width s.height (bit_of s) b (key_of s plate) t old start m gaps within path k (place_of r stand) stand.gaps
+            (place_of r to) to.gaps h inward (nearer_place s b plate x r sound levels view t positive (suc k) stand d k refl left is-left to to_picked)
+            (omega (arith, to_picked.is_gaps, gap_left s b plate x r sound levels view t positive (suc k) stand d k refl)))
 
     -- the same with any number of steps left
+    pub record Nearer (n : ℕ) (found : Option Stand) : Type 0 where
+      pub there : IsSome found
+      pub stands : (to : Stand) → found ≡ Some to → Stands s b plate x r t (n - 1) to
+      pub inward : (to : Stand) → found ≡ Some to → (i place : ℕ) → i ≡ index_after b start n → place ≡ place_of r stand →
+          Inward s.slack s.width s.height (bit_of s) b (key_of s plate) t old start m gaps (set path i place) (n - 1) (place_of r to) to.gaps
+
     pub walk_on :
         (n : ℕ) → 0 < n → Stands s b plate x r t n stand → n ≤ m →
         Inward s.slack s.width s.height (bit_of s) b (key_of s plate) t old start m gaps path n (place_of r stand) stand.gaps →
         (left : ℕ) → left ≡ stand.gaps - under t (key_of s plate (place_of r stand)) → (work : List ℕ) (top want : ℕ) →
-        want ≡ cond r.plan.ranked stand.state 1 → Holds work top r.plan (want - 1) (seen_at s b plate x r (want - 1)) → (to : Stand) →
-        Picked (StepTo r.plan (with_gaps stand left)) (stored_at work top r.plan) r.plan left t to →
-        (i place : ℕ) → i ≡ index_after b start n → place ≡ place_of r stand →
-        Stands s b plate x r t (n - 1) to
-        × Inward s.slack s.width s.height (bit_of s) b (key_of s plate) t old start m gaps (set path i place) (n - 1) (place_of r to) to.gaps
-    walk_on zero l d h inward left is-left work top want is-want held to picked i place is-i is_place = absurd (omega arith)
-    walk_on (suc k) l d h inward left is-left work top want is-want held to picked i place is-i is_place =
+        want ≡ cond r.plan.ranked stand.state 1 → Holds work top r.plan (want - 1) (seen_at s b plate x r (want - 1)) → (found : Option Stand) →
+        Picked (StepTo r.plan (with_gaps stand left)) (stored_at work top r.plan) r.plan left t found → Nearer n found
+    walk_on zero l d h inward left is-left work top want is-want held found picked = absurd (omega arith)
+    walk_on (suc k) l d h inward left is-left work top want is-want held found picked =
         let e : suc k - 1 ≡ k = omega arith in
-        rw e (
-          walk_stands k d h inward left is-left work top want is-want held to picked,
-          walk_inward k d h inward left is-left work top want is-want held to picked i place is-i is_place,
-        )
+        record {
+          there = walk_there k d h inward left is-left work top want is-want held found picked;
+          stands = λ to is. rw e (walk_stands k d h inward left is-left work top want is-want held found picked to is);
+          inward = λ to is i place is-i is_place.
+              rw e (walk_inward k d h inward left is-left work top want is-want held found picked to is i place is-i is_place);
+        }
 
     -- ---- the picked pixel is come to
 

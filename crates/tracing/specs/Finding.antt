@@ -6,7 +6,6 @@ use Rattle.plate.specs.Opening.{level_at}
 use Rattle.plate.specs.declared.setting.Setting.{Setting}
 use Rattle.frames.specs.Keys.{key_by}
 use Rattle.walks.specs.declared.found.Found.{Found}
-use Rattle.states.specs.Runs.{Apart}
 use Rattle.tracing.specs.Scans.{bit_of, key_of, KeysLaid}
 use Rattle.tracing.specs.Following.{Leads}
 use Rattle.tracing.specs.declared.scan.Scan.{Scan}
@@ -14,18 +13,17 @@ use Rattle.headings.specs.Usable.{usable}
 use Rattle.theory.specs.BestWalks.{gap_end, best_walk, term}
 use Rattle.theory.specs.Walks.{around}
 
--- the numbers of a list from a place on
-abbrev pub cells : List ℕ → ℕ → ℕ → ℕ
-cells notes at i = get_or notes (at + i) 0
+-- the numbers of a list
+abbrev pub cells : List ℕ → ℕ → ℕ
+cells notes i = get_or notes i 0
 
 -- the best walks of 0 to m steps from x, k + 1 numbers for each
 pub record Noted (slack : ℕ) (numbers : ℕ → ℕ) (W H bit : ℕ) (backwards : Bool) (g : ℕ → ℕ) (k m x : ℕ) : Type 0 where
   pub is : (l j : ℕ) → l ≤ m → j ≤ k → numbers (l * (k + 1) + j) ≡ best_walk slack (around backwards W H bit) g l j x
 
--- one side of a direction is noted from `to` on, by the keys of the plate, which are left for the other side
-pub record NotedSide (s : Scan) (backwards : Bool) (plate : List ℤ) (x to : ℕ) (work old new : List ℕ) : Type 0 where
-  pub noted : Noted s.slack (cells new to) s.width s.height (bit_of s) backwards (key_of s plate) s.setting.gaps s.steps x
-  pub apart : Apart old new to (to + (s.steps + 1) * (s.setting.gaps + 1))
+-- one side of a direction is noted, by the keys of the plate, which are left for the other side
+pub record NotedSide (s : Scan) (backwards : Bool) (plate : List ℤ) (x : ℕ) (work notes : List ℕ) : Type 0 where
+  pub noted : Noted s.slack (cells notes) s.width s.height (bit_of s) backwards (key_of s plate) s.setting.gaps s.steps x
   pub left : KeysLaid s plate work
 
 -- A path through x is known by numbers: in the direction with this bit it has `before` steps to x with at most `gaps` pixels below t, and its other

@@ -1,8 +1,6 @@
 -- One direction of a trace. These definitions serve contracts inside the engine only: no public contract cites them.
-use Rattle.std.specs.Prelude.{ℕ, ◌+◌, ◌-◌, ◌*◌, ◌^◌, ◌≤◌, ◌<◌, ◌≡◌, List, get_or, ℤ}
+use Rattle.std.specs.Prelude.{ℕ, ◌-◌, ◌*◌, ◌^◌, ◌<◌, ◌≡◌, List, get_or, ℤ}
 use Rattle.plate.specs.Opening.{level_at}
-use Rattle.plate.specs.Paths.{span}
-use Rattle.plate.specs.Sizes.{GoodSize}
 use Rattle.plate.specs.declared.setting.Setting.{Setting}
 use Rattle.frames.specs.Keys.{key_by}
 use Rattle.directions.specs.Numbers.{place_kept}
@@ -18,17 +16,6 @@ bit_of s = 2 ^ s.index
 -- the key of the plate at a place, as the mode looks at it
 unfoldable pub key_of : Scan → List ℤ → ℕ → ℕ
 key_of s plate p = key_by s.setting.mode (level_at plate p)
-
--- the numbers of a scan are those of a plate and a direction whose paths of this length exist
-pub record Sound (s : Scan) : Type 0 where
-  pub size : GoodSize s.width s.height
-  pub few : s.setting.gaps ≤ 8
-  pub known : s.index < 4
-  pub long : span s.width s.height (bit_of s) ≡ s.steps + s.spare + 1
-  pub short : s.steps + s.spare < 2048
-  pub few_steps : s.steps < 1024
-  pub is_length : s.setting.length ≡ s.steps + 1
-  pub few_slack : s.slack ≤ 65535
 
 -- the scan of a direction, by its place in the table
 pub record ScanOf (r : Scan) (W H : ℕ) (s : Setting) (index : ℕ) : Type 0 where

@@ -25,10 +25,11 @@ mod shown;
 mod sight;
 mod taken;
 
+use crate::checks::first_direction;
+use crate::find::Asked;
 use crate::shown::find_and_draw;
 pub use checks::judge_trace;
-use headings::first_usable;
-use plate::{Answer, Setting, Traced};
+use plate::{Refusal, Setting, Trace};
 
 // Writes the places of a path through the pixel at a place, in walking order, into the path buffer, and
 // returns the bit of its direction (document 01: way) and the pixel's filtered level; or refuses (1 to 8,
@@ -41,11 +42,11 @@ pub fn trace(
     at: usize,
     path: &mut [usize],
     work: &mut [u16],
-) -> Traced
+) -> Result<Trace, Refusal>
     ensures result_value { traced_level result ≡ trace_verdict width height setting plate.now at (length path.old) (length work.old) }
     ensures trace_after { TraceAfter result (Shows setting width height plate.now at) path.old path.new work.old work.new }
 {
-    let answer = judge_trace(
+    let first = first_direction(
         width,
         height,
         setting,
@@ -53,13 +54,13 @@ pub fn trace(
         plate.len(),
         path.len(),
         work.len(),
-    );
-    if let Answer::Refused { number, place } = answer {
-        return Traced::Refused {
-            number: number,
-            place: place,
-        };
-    }
-    let first = first_usable(width, height, setting);
-    find_and_draw(width, height, plate, setting, at, first, path, work)
+    )?;
+    let asked = Asked {
+        width,
+        height,
+        plate,
+        setting,
+        x: at,
+    };
+    Ok(find_and_draw(&asked, first, path, work))
 }

@@ -1,42 +1,33 @@
 // The path that is shown, once every check has passed.
-ghost use Rattle.std.specs.Prelude.{◌≡◌, ◌<◌, length};
+ghost use Rattle.std.specs.Prelude.{◌≡◌, Some, length};
 ghost use Rattle.plate.specs.Opening.{level_at, filtered};
-ghost use Rattle.plate.specs.Refusals.{Verdict.accepted, Clear, trace_checks};
-ghost use Rattle.plate.specs.Answers.{traced_level, TraceAfter};
+ghost use Rattle.plate.specs.Refusals.{Clear, trace_checks};
 ghost use Rattle.theory.specs.Trace.{Shows};
 ghost use Rattle.headings.specs.Usable.{FirstUsable};
 
 use crate::draw::draw;
-use crate::find::find;
-use crate::scan::scan_of;
+use crate::find::Asked;
+use crate::scan::Scan;
 use headings::bit_of;
-use plate::{Setting, Traced};
+use plate::Trace;
 
-// Finds the best path through the pixel x and draws it.
+// Finds the best path through the pixel and draws it.
 pub(crate) fn find_and_draw(
-    width: usize,
-    height: usize,
-    plate: &[i16],
-    setting: Setting,
-    x: usize,
+    asked: &Asked,
     first: usize,
     path: &mut [usize],
     work: &mut [u16],
-) -> Traced
-    requires clear { Clear (trace_checks width height setting (length plate.now) x (length path.old) (length work.old)) }
-    requires first_bound { first < 4 }
-    requires first_usable { FirstUsable width height setting first }
-    ensures result_value { traced_level result ≡ accepted (level_at (filtered setting width height plate.now) x) }
-    ensures trace_after { TraceAfter result (Shows setting width height plate.now x) path.old path.new work.old work.new }
+) -> Trace
+    requires clear { Clear (trace_checks asked.now.width asked.now.height asked.now.setting (length asked.now.plate.now) asked.now.x (length path.old) (length work.old)) }
+    requires first_usable { FirstUsable asked.now.width asked.now.height asked.now.setting (Some first) }
+    ensures level { result.level ≡ level_at (filtered asked.now.setting asked.now.width asked.now.height asked.now.plate.now) asked.now.x }
+    ensures shows { Shows asked.now.setting asked.now.width asked.now.height asked.now.plate.now asked.now.x result.direction result.level path.new }
 {
-    let found = find(work, plate, width, height, setting, first, x);
-    let longest = plate::span_of(width, height, found.index);
-    let scan = scan_of(width, height, setting, found.index, longest);
-    draw(path, work, plate, scan, found, x);
-    let direction = bit_of(found.index);
-    let level = frames::level_by(setting.mode, found.key);
-    Traced::Path {
-        direction: direction,
-        level: level,
+    let found = asked.find(work, first);
+    let scan = Scan::new(asked.width, asked.height, asked.setting, found.index);
+    draw(path, work, asked.plate, scan, found, asked.x);
+    Trace {
+        direction: bit_of(found.index),
+        level: frames::level_by(asked.setting.mode, found.key),
     }
 }

@@ -72,21 +72,21 @@ past_few p e w near =
     go true = omega arith
     go false = omega (arith, rows_few p e, (formed p w).limits.few_rows)
 
-module _ (p : Plan) (e to base notes work : ℕ) where
-  pub note_1 : can_read p base work ≡ false → false ≡ can_note p e to base notes work
+module _ (p : Plan) (e base notes work : ℕ) where
+  pub note_1 : can_read p base work ≡ false → false ≡ can_note p e base notes work
   unfolding can_note
   note_1 a = rw a refl
 
-  pub note_2 : can_read p base work ≡ true → 65536 ≤ e → false ≡ can_note p e to base notes work
+  pub note_2 : can_read p base work ≡ true → 65536 ≤ e → false ≡ can_note p e base notes work
   unfolding can_note
   note_2 a b = rw (a, le-ltb e 65536 b) refl
 
-  pub note_3 : can_read p base work ≡ true → e < 65536 → 65536 < base → false ≡ can_note p e to base notes work
+  pub note_3 : can_read p base work ≡ true → e < 65536 → 65536 < base → false ≡ can_note p e base notes work
   unfolding can_note
   note_3 a b d = rw (a, lt-ltb e 65536 b, lt-leb base 65536 d) refl
 
   pub note_4 :
-      can_read p base work ≡ true → e < 65536 → base ≤ 65536 → leb (to + steps_past p e * p.planes) notes ≡ can_note p e to base notes work
+      can_read p base work ≡ true → e < 65536 → base ≤ 65536 → leb (steps_past p e * p.planes) notes ≡ can_note p e base notes work
   unfolding can_note
   note_4 a b d = rw (a, lt-ltb e 65536 b, le-leb base 65536 d) refl
 
@@ -94,27 +94,27 @@ module _ (p : Plan) (e to base notes work : ℕ) where
     pub read : Read p base work
     pub few : e < 65536
     pub near : base ≤ 65536
-    pub room : to + steps_past p e * p.planes ≤ notes
+    pub room : steps_past p e * p.planes ≤ notes
 
-  pub note_facts : can_note p e to base notes work ≡ true → Note
+  pub note_facts : can_note p e base notes work ≡ true → Note
   unfolding can_note
   note_facts t =
       let r = can_read p base work in
       let n = ltb e 65536 in
       let b = leb base 65536 in
-      let a3 = both (r && n && b) (leb (to + steps_past p e * p.planes) notes) t in
+      let a3 = both (r && n && b) (leb (steps_past p e * p.planes) notes) t in
       let a2 = both (r && n) b a3.0 in
       let a1 = both r n a2.0 in
       record {
         read = read_facts p base work a1.0;
         few = ltb-true e 65536 a1.1;
         near = leb-true base 65536 a2.1;
-        room = leb-true (to + steps_past p e * p.planes) notes a3.1;
+        room = leb-true (steps_past p e * p.planes) notes a3.1;
       }
 
-  pub note_if : Note → can_note p e to base notes work ≡ true
+  pub note_if : Note → can_note p e base notes work ≡ true
   note_if h =
-      sym (note_4 (read_if p base work h.read) h.few h.near) ∙ le-leb (to + steps_past p e * p.planes) notes h.room
+      sym (note_4 (read_if p base work h.read) h.few h.near) ∙ le-leb (steps_past p e * p.planes) notes h.room
 
 -- ---- the far end of a walk
 

@@ -1,3 +1,4 @@
+pub mod Parts
 pub mod Endings
 pub mod Picking
 pub mod Lifting

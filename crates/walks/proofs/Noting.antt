@@ -1,5 +1,5 @@
 -- The notes of one state: they rise to the planes of a row, and to one row after the other.
-use Prim.Native.Nat.{ℕ, ◌+◌, ◌-◌, ◌*◌, ◌≤◌, ◌<◌}
+use Prim.Native.Nat.{ℕ, ◌+◌, ◌-◌, ◌*◌, ◌≤◌, ◌<◌, min}
 use mathlib.Core.Path.{◌≡◌, refl, sym, ap, subst, ◌∙◌}
 use mathlib.Core.Bool.{Bool, true, false, cond}
 use mathlib.Core.List.{List}
@@ -11,6 +11,8 @@ use Rattle.plans.specs.Plans.{rows_in, row_lo, row_hi, row_at, row_size, steps_a
 use Rattle.plans.specs.declared.plan.Plan.{Plan}
 use Rattle.walks.specs.Noting.{Highest, Lifted, FromRow, FromState, steps_past, row_ended}
 use Rattle.walks.specs.Endings.{ended_at, ended_in}
+use Rattle.theory.specs.BestWalks.{ended}
+use Rattle.walks.proofs.Parts.{part, part_length, part_ended}
 use Rattle.walks.proofs.Lifting.{FromRun, lifted_then, lifted_none, lifted_same, lifted_set}
 
 -- ---- the planes of a row
@@ -48,34 +50,48 @@ module _ (f : ℕ → ℕ → ℕ) (lo hi to j : ℕ) where
   row_lifted_more r old mid l d h =
       lifted_then _ _ _ old mid (set mid (to + j) r) row_split row_wider row_last d (lifted_set (f j) lo hi (to + j) r mid l h)
 
--- the run of the work buffer that is plane j of a row, with the run of its keys
-module _ (work : List ℕ) (slack key at across j lo hi from keys n v r : ℕ) (ordered : lo ≤ hi) (is-n : n ≡ hi - lo)
-    (is_from : from ≡ at + lo + j * across) (is-keys : keys ≡ key + lo) where
-  cell_same : (x k : ℕ) → x ≡ lo + k → ended_at work slack (keys + k) (from + k) ≡ row_ended work slack key at across j x
-  cell_same x k e =
-      let there : from + k ≡ at + (j * across + x) = omega arith in
-      let beside : keys + k ≡ key + x = omega arith in
-      rw (there, beside)
+-- the part of the work buffer that is plane j of a row, with the part that its keys are
+module _ (work : List ℕ) (slack key at across j lo hi v r : ℕ) (ordered : lo ≤ hi) (keyed : key + hi ≤ length work)
+    (there : at + j * across + hi ≤ length work) where
+  abbrev from : ℕ
+  from = at + j * across + lo
 
-  pub highest_cells : Highest (λ (k : ℕ). ended_at work slack (keys + k) (from + k)) 0 n v r → Highest (row_ended work slack key at across j) lo hi v r
+  abbrev past : ℕ
+  past = at + j * across + hi
+
+  cell_same :
+      (x k : ℕ) → x ≡ lo + k → k < hi - lo →
+      min (get_or (part work from past) k 0) (ended slack (get_or (part work (key + lo) (key + hi)) k 0)) ≡ row_ended work slack key at across j x
+  cell_same x k e l =
+      let cell : from + k ≡ at + (j * across + x) = omega arith in
+      let beside : key + lo + k ≡ key + x = omega arith in
+      part_ended work slack from past (key + lo) (key + hi) k (omega arith) (omega arith) ∙ rw (cell, beside) refl
+
+  pub highest_cells :
+      Highest (λ (k : ℕ). min (get_or (part work from past) k 0) (ended slack (get_or (part work (key + lo) (key + hi)) k 0))) 0
+      (length (part work from past)) v r →
+      Highest (row_ended work slack key at across j) lo hi v r
   highest_cells h =
+      let long = part_length work from past there in
       record {
         not_below = h.not_below;
-        best = λ x l u. let e : x ≡ lo + (x - lo) = omega arith in rw (cell_same x (x - lo) e) at (h.best (x - lo) (omega arith) (omega arith));
+        best = λ x l u.
+            let e : x ≡ lo + (x - lo) = omega arith in rw (cell_same x (x - lo) e (omega arith)) at (h.best (x - lo) (omega arith) (omega arith));
         source =
-            ⊎_elim inl (λ s. inr (lo + s.0, omega arith, omega (arith, s.2), s.3 ∙ cell_same (lo + s.0) s.0 refl)) h.source;
+            ⊎_elim inl
+            (λ s. inr (lo + s.0, omega arith, omega (arith, s.2), s.3 ∙ cell_same (lo + s.0) s.0 refl (omega (arith, s.2)))) h.source;
       }
 
 -- ---- the rows of a state
 
-pub state_lifted_none : (p : Plan) (f : ℕ → ℕ → ℕ → ℕ) (to e : ℕ) (notes : List ℕ) → Lifted (FromState p f to e 0) notes notes
-state_lifted_none p f to e notes = lifted_none _ notes (λ q v s. omega (arith, s.row_below))
+pub state_lifted_none : (p : Plan) (f : ℕ → ℕ → ℕ → ℕ) (e : ℕ) (notes : List ℕ) → Lifted (FromState p f e 0) notes notes
+state_lifted_none p f e notes = lifted_none _ notes (λ q v s. omega (arith, s.row_below))
 
-module _ (p : Plan) (f : ℕ → ℕ → ℕ → ℕ) (to e m : ℕ) where
+module _ (p : Plan) (f : ℕ → ℕ → ℕ → ℕ) (e m : ℕ) where
   abbrev RowOf : ℕ → ℕ → ℕ → Type 0
-  RowOf m q v = FromRow (f m) (row_lo p e m) (row_hi p e m) (to + steps_at p e m * p.planes) p.planes q v
+  RowOf m q v = FromRow (f m) (row_lo p e m) (row_hi p e m) (steps_at p e m * p.planes) p.planes q v
 
-  state_split : (q v : ℕ) → FromState p f to e (m + 1) q v → FromState p f to e m q v ⊎ RowOf m q v
+  state_split : (q v : ℕ) → FromState p f e (m + 1) q v → FromState p f e m q v ⊎ RowOf m q v
   state_split q v s =
       ⊎_elim
       (λ l. let same : s.row ≡ m = omega (arith, s.row_below) in inr (subst (λ (n : ℕ). RowOf n q v) same s.number))
@@ -83,7 +99,7 @@ module _ (p : Plan) (f : ℕ → ℕ → ℕ → ℕ) (to e m : ℕ) where
       (le_or_lt m s.row)
 
   pub state_lifted_more :
-      (old mid new : List ℕ) → Lifted (FromState p f to e m) old mid → Lifted (RowOf m) mid new → Lifted (FromState p f to e (m + 1)) old new
+      (old mid new : List ℕ) → Lifted (FromState p f e m) old mid → Lifted (RowOf m) mid new → Lifted (FromState p f e (m + 1)) old new
   state_lifted_more old mid new d r =
       lifted_then _ _ _ old mid new state_split
       (λ q v s. record { row = s.row; row_below = omega (arith, s.row_below); number = s.number })
@@ -101,10 +117,10 @@ past_most p e most h few = go p.ranked few
 
 -- the notes of a row find room
 pub steps_fit :
-    (p : Plan) (e to size m steps : ℕ) → to + steps_past p e * p.planes ≤ size → steps ≡ steps_at p e m → m < rows_in p e →
-    to + steps * p.planes + p.planes ≤ size
+    (p : Plan) (e size m steps : ℕ) → steps_past p e * p.planes ≤ size → steps ≡ steps_at p e m → m < rows_in p e →
+    steps * p.planes + p.planes ≤ size
 unfolding steps_past
-steps_fit p e to size m steps room es h = omega (arith, room, rows_fit steps 1 (steps_past p e) p.planes (below p.ranked es))
+steps_fit p e size m steps room es h = omega (arith, room, rows_fit steps 1 (steps_past p e) p.planes (below p.ranked es))
   where
     below : (b : Bool) → steps ≡ cond b e m → steps + 1 ≤ cond b (e + 1) (rows_in p e)
     below true k = omega arith
@@ -127,11 +143,11 @@ row_same f g lo hi to planes q v e s =
 
 -- row m of a state in the work buffer
 pub row_in_state :
-    (p : Plan) (slack to e m at base lo hi keys steps : ℕ) (work old new : List ℕ) → at ≡ base + m * row_size p → lo ≡ row_lo p e m → hi ≡ row_hi p e m →
+    (p : Plan) (slack e m at base lo hi keys steps : ℕ) (work old new : List ℕ) → at ≡ base + m * row_size p → lo ≡ row_lo p e m → hi ≡ row_hi p e m →
     keys ≡ row_at p e m → steps ≡ steps_at p e m →
-    Lifted (FromRow (row_ended work slack keys at p.across) lo hi (to + steps * p.planes) p.planes) old new →
-    Lifted (FromRow (ended_in work slack base p e m) (row_lo p e m) (row_hi p e m) (to + steps_at p e m * p.planes) p.planes) old new
-row_in_state p slack to e m at base lo hi keys steps work old new ea el eh ek es d =
+    Lifted (FromRow (row_ended work slack keys at p.across) lo hi (steps * p.planes) p.planes) old new →
+    Lifted (FromRow (ended_in work slack base p e m) (row_lo p e m) (row_hi p e m) (steps_at p e m * p.planes) p.planes) old new
+row_in_state p slack e m at base lo hi keys steps work old new ea el eh ek es d =
     let cell : (j x : ℕ) → row_ended work slack (row_at p e m) at p.across j x ≡ ended_in work slack base p e m j x =
     λ j x. ap (λ (i : ℕ). ended_at work slack (row_at p e m + x) i)
     (let i : at + (j * p.across + x) ≡ base + (m * row_size p + (j * p.across + x)) = omega arith in i) in

@@ -4,60 +4,79 @@ use mathlib.Core.Path.{◌≡◌, refl, sym, ap, subst, ◌∙◌}
 use mathlib.Core.Bool.{true, false, true≢false}
 use mathlib.Core.List.{List}
 use mathlib.Core.Logic.{◌⊎◌, inl, inr, ⊎_elim}
+use Rattle.std.specs.Prelude.{Option, Some, None, IsSome, MatchOption}
 use native.Mathlib.Omega.{arith}
-use lib.ListN.{get_or}
+use lib.ListN.{length, get_or}
 use Rattle.basics.proofs.Numbers.{le_or_lt}
 use Rattle.plans.specs.Plans.{Sound, row_lo, row_hi, row_at, rows_in, row_size}
 use Rattle.states.specs.States.{Holds}
 use Rattle.plans.specs.declared.plan.Plan.{Plan}
 use Rattle.walks.specs.Picking.{Tells, stored_at, Picked, RowsFrom, OfSteps, JustBefore, TapTo, StepTo}
-use Rattle.walks.specs.Endings.{ended_at, ended_in}
+use Rattle.theory.specs.BestWalks.{ended}
+use Rattle.walks.specs.Endings.{ended_in}
 use Rattle.walks.specs.declared.stand.Stand.{Stand}
+use Rattle.walks.proofs.Parts.{part, part_length, part_ended}
 
 -- ---- one pixel is picked, or none
 
-module _ (Among : ℕ → ℕ → ℕ → Type 0) (f : ℕ → ℕ → ℕ → ℕ → ℕ) (p : Plan) (j t : ℕ) (r : Stand) (same : r.gaps ≡ j) where
-  pub picked_none : p.across ≤ r.pixel → ((e m x : ℕ) → Among e m x → Tells f p j t e m x → ⊥) → Picked Among f p j t r
-  picked_none past none =
-      record { is_gaps = same; fits = λ h. absurd (omega arith); found = λ e m x a h. absurd (none e m x a h) }
+-- none
+pub picked_none :
+    (Among : ℕ → ℕ → ℕ → Type 0) (f : ℕ → ℕ → ℕ → ℕ → ℕ) (p : Plan) (j t : ℕ) → ((e m x : ℕ) → Among e m x → Tells f p j t e m x → ⊥) →
+    Picked Among f p j t None
+picked_none Among f p j t none = none
 
-  pub picked_one : r.pixel < p.across → Among r.state r.row r.pixel → Tells f p j t r.state r.row r.pixel → Picked Among f p j t r
-  picked_one on a h = record { is_gaps = same; fits = λ _. (a, h); found = λ e m x _ _. on }
+-- where one is, one is picked
+pub picked_there :
+    (Among : ℕ → ℕ → ℕ → Type 0) (f : ℕ → ℕ → ℕ → ℕ → ℕ) (p : Plan) (j t : ℕ) (r : Option Stand) → Picked Among f p j t r → (e m x : ℕ) →
+    Among e m x → Tells f p j t e m x → IsSome r
+picked_there Among f p j t None d e m x a h = absurd (d e m x a h)
+picked_there Among f p j t (Some s) d e m x a h = refl
 
 -- among the same pixels, said otherwise
 pub picked_among :
-    (A B : ℕ → ℕ → ℕ → Type 0) (f : ℕ → ℕ → ℕ → ℕ → ℕ) (p : Plan) (j t : ℕ) (r : Stand) →
+    (A B : ℕ → ℕ → ℕ → Type 0) (f : ℕ → ℕ → ℕ → ℕ → ℕ) (p : Plan) (j t : ℕ) (r : Option Stand) →
     ((e m x : ℕ) → m < rows_in p e → A e m x → B e m x) → ((e m x : ℕ) → m < rows_in p e → B e m x → A e m x) → Picked A f p j t r → Picked B f p j t r
-picked_among A B f p j t r there back d =
-    record {
-      is_gaps = d.is_gaps;
-      fits = λ h. let k = d.fits h in (there _ _ _ k.1.row k.0, k.1);
-      found = λ e m x b h. d.found e m x (back e m x h.row b) h;
-    }
+picked_among A B f p j t None there back d = λ e m x b h. d e m x (back e m x h.row b) h
+picked_among A B f p j t (Some s) there back d =
+    record { is_gaps = d.is_gaps; on = d.on; among = there _ _ _ d.tells.row d.among; tells = d.tells }
 
 -- by the same numbers, said otherwise
 pub picked_same :
-    (Among : ℕ → ℕ → ℕ → Type 0) (f g : ℕ → ℕ → ℕ → ℕ → ℕ) (p : Plan) (j t : ℕ) (r : Stand) →
+    (Among : ℕ → ℕ → ℕ → Type 0) (f g : ℕ → ℕ → ℕ → ℕ → ℕ) (p : Plan) (j t : ℕ) (r : Option Stand) →
     ((e m x : ℕ) → m < rows_in p e → row_lo p e m ≤ x → x < row_hi p e m → Among e m x → f e m j x ≡ g e m j x) →
     Picked Among f p j t r → Picked Among g p j t r
-picked_same Among f g p j t r same d =
+picked_same Among f g p j t None same d =
+    λ e m x a h. d e m x a (record { row = h.row; low = h.low; high = h.high; counts = omega (arith, h.counts, same e m x h.row h.low h.high a) })
+picked_same Among f g p j t (Some s) same d =
+    let c = d.tells in
     record {
       is_gaps = d.is_gaps;
-      fits = λ h.
-          let k = d.fits h in
-          let c = k.1 in
-          (k.0, record { row = c.row; low = c.low; high = c.high; counts = omega (arith, c.counts, same _ _ _ c.row c.low c.high k.0) });
-      found = λ e m x a h.
-          d.found e m x a (record { row = h.row; low = h.low; high = h.high; counts = omega (arith, h.counts, same e m x h.row h.low h.high a) });
+      on = d.on;
+      among = d.among;
+      tells = record { row = c.row; low = c.low; high = c.high; counts = omega (arith, c.counts, same _ _ _ c.row c.low c.high d.among) };
     }
 
 -- the numbers of a state that the buffer holds
 pub picked_held :
-    (work : List ℕ) (base : ℕ) (p : Plan) (f : ℕ → ℕ → ℕ → ℕ → ℕ) (j t : ℕ) → j < p.planes → (Among : ℕ → ℕ → ℕ → Type 0) (r : Stand) →
+    (work : List ℕ) (base : ℕ) (p : Plan) (f : ℕ → ℕ → ℕ → ℕ → ℕ) (j t : ℕ) → j < p.planes → (Among : ℕ → ℕ → ℕ → Type 0) (r : Option Stand) →
     ((e m x : ℕ) → m < rows_in p e → row_lo p e m ≤ x → x < row_hi p e m → Among e m x → Holds work base p e (f e)) →
     Picked Among (stored_at work base p) p j t r → Picked Among f p j t r
 picked_held work base p f j t few Among r held =
     picked_same Among (stored_at work base p) f p j t r (λ e m x row low high a. (held e m x row low high a).is m j x row few low high)
+
+-- by one way, or where that finds none by another
+pub picked_or :
+    (A B : ℕ → ℕ → ℕ → Type 0) (f : ℕ → ℕ → ℕ → ℕ → ℕ) (p : Plan) (j t : ℕ) (a r : Option Stand) → Picked A f p j t a →
+    MatchOption a (Picked B f p j t r) (λ s. r ≡ Some s) → Picked (λ e m x. A e m x ⊎ B e m x) f p j t r
+picked_or A B f p j t (Some s) r d e =
+    rw e (record { is_gaps = d.is_gaps; on = d.on; among = inl d.among; tells = d.tells })
+picked_or A B f p j t None None d e = λ e' m x k h. ⊎_elim (λ i. d e' m x i h) (λ i. e e' m x i h) k
+picked_or A B f p j t None (Some s) d e = record { is_gaps = e.is_gaps; on = e.on; among = inr e.among; tells = e.tells }
+
+-- what an option's alternative is known to be
+pub match_some : (P Q : Type 0) (R : Stand → Type 0) (o : Option Stand) → MatchOption o P R → (P → Q) → MatchOption o Q R
+match_some P Q R None p f = f p
+match_some P Q R (Some x) r f = r
 
 -- ---- row after row
 
@@ -72,49 +91,67 @@ module _ (work : List ℕ) (slack base : ℕ) (p : Plan) (state j t : ℕ) where
   pub missed_none : (first : ℕ) → Missed first first
   missed_none first = record { none = λ m x h l d. omega arith }
 
-  module _ (m lo hi at key keys : ℕ) (is-lo : lo ≡ row_lo p state m) (is-hi : hi ≡ row_hi p state m) (is_key : key ≡ row_at p state m)
-      (is_at : at ≡ base + m * row_size p + j * p.across + lo) (is-keys : keys ≡ key + lo) where
-    -- the places where the code reads
-    read_place : (x k : ℕ) → x ≡ lo + k → ended_at work slack (keys + k) (at + k) ≡ ended_in work slack base p state m j x
-    read_place x k e =
-        let same : at + k ≡ base + (m * row_size p + (j * p.across + x)) = omega arith in
-        let beside : keys + k ≡ row_at p state m + x = omega arith in
-        rw (same, beside)
+  module _ (m lo hi key : ℕ) (is-lo : lo ≡ row_lo p state m) (is-hi : hi ≡ row_hi p state m) (is_key : key ≡ row_at p state m) where
+    abbrev plane : ℕ
+    plane = base + m * row_size p + j * p.across
 
-    pub missed_more :
-        (first next r : ℕ) → next ≡ m + 1 → Missed first m → hi - lo ≤ r → ((k : ℕ) → k < r → ended_at work slack (keys + k) (at + k) < t) →
-        Missed first next
-    missed_more first next r e d all low =
-        record {
-          none = λ n x h l k.
-              ⊎_elim
-              (λ a. d.none n x h a k)
-              (λ a.
-              let same : n ≡ m = omega arith in
-              let told : Tells (ended_in work slack base p) p j t state m x = rw same at k in
-              let here : ended_in work slack base p state m j x < t =
-              rw (read_place x (x - lo) (let e : x ≡ lo + (x - lo) = omega (arith, told.low) in e)) at (low (x - lo) (omega (arith, told.low, told.high))) in
-              omega (arith, told.counts, here))
-              (less_or_more n m);
-        }
+    -- what the code reads of the row
+    abbrev read : ℕ → ℕ
+    read k = min (get_or (part work (plane + lo) (plane + hi)) k 0) (ended slack (get_or (part work (key + lo) (key + hi)) k 0))
 
-    pub row_picked :
-        (first past k : ℕ) (r : Stand) → r.state ≡ state → r.row ≡ m → r.pixel ≡ lo + k → r.gaps ≡ j → first ≤ m → m < past → m < rows_in p state →
-        hi ≤ p.across → k < hi - lo → t ≤ ended_at work slack (keys + k) (at + k) → Picked (RowsFrom state first past) (ended_in work slack base p) p j t r
-    row_picked first past k r es em ex eg h l row wide within high =
-        picked_one (RowsFrom state first past) (ended_in work slack base p) p j t r eg (omega arith) (es, omega arith, omega arith)
-        (rw (es, em, ex)
-        (record { row = row; low = omega arith; high = omega arith; counts = rw (read_place (lo + k) k refl) at high }))
+    read_place : (x k : ℕ) → x ≡ lo + k → k < hi - lo → read k ≡ ended_in work slack base p state m j x
+    read_place x k e l =
+        let same : plane + lo + k ≡ base + (m * row_size p + (j * p.across + x)) = omega arith in
+        let beside : key + lo + k ≡ row_at p state m + x = omega arith in
+        part_ended work slack (plane + lo) (plane + hi) (key + lo) (key + hi) k (omega arith) (omega arith) ∙ rw (same, beside) refl
+
+    module _ (there : plane + hi ≤ length work) (keyed : key + hi ≤ length work) where
+      abbrev long : ℕ
+      long = length (part work (plane + lo) (plane + hi))
+
+      is_long : long ≡ hi - lo
+      is_long = omega (arith, part_length work (plane + lo) (plane + hi) there)
+
+      pub missed_more : (first : ℕ) → Missed first m → ((k : ℕ) → k < long → read k < t) → Missed first (m + 1)
+      missed_more first d low =
+          record {
+            none = λ n x h l k.
+                ⊎_elim
+                (λ a. d.none n x h a k)
+                (λ a.
+                let same : n ≡ m = omega arith in
+                let told : Tells (ended_in work slack base p) p j t state m x = rw same at k in
+                let e : x ≡ lo + (x - lo) = omega (arith, told.low) in
+                omega (
+                  arith,
+                  told.counts,
+                  read_place x (x - lo) e (omega (arith, told.low, told.high)),
+                  low (x - lo) (omega (arith, told.low, told.high, is_long)),
+                ))
+                (less_or_more n m);
+          }
+
+      pub row_picked :
+          (first past k : ℕ) → first ≤ m → m < past → m < rows_in p state → hi ≤ p.across →
+          (k < long) × (t ≤ read k) × ((i : ℕ) → i < k → read i < t) →
+          Picked (RowsFrom state first past) (ended_in work slack base p) p j t (Some (record { state = state; row = m; pixel = lo + k; gaps = j }))
+      row_picked first past k h l row wide found =
+          let near : k < hi - lo = omega (arith, found.0, is_long) in
+          record {
+            is_gaps = refl;
+            on = omega arith;
+            among = (refl, h, l);
+            tells =
+                record { row = row; low = omega arith; high = omega arith; counts = omega (arith, found.1, read_place (lo + k) k refl near) };
+          }
 
   pub missed_picked :
-      (first past row : ℕ) (r : Stand) → past ≤ row → Missed first row → p.across ≤ r.pixel → r.gaps ≡ j →
-      Picked (RowsFrom state first past) (ended_in work slack base p) p j t r
-  missed_picked first past row r l d off eg =
-      picked_none (RowsFrom state first past) (ended_in work slack base p) p j t r eg off
-      (λ e m x a h. d.none m x a.1 (omega (arith, a.2)) (subst (λ (k : ℕ). Tells (ended_in work slack base p) p j t k m x) a.0 h))
+      (first past row : ℕ) → past ≤ row → Missed first row → Picked (RowsFrom state first past) (ended_in work slack base p) p j t None
+  missed_picked first past row l d =
+      λ e m x a h. d.none m x a.1 (omega (arith, a.2)) (subst (λ (k : ℕ). Tells (ended_in work slack base p) p j t k m x) a.0 h)
 
 -- the walks of so many steps
-module _ (f : ℕ → ℕ → ℕ → ℕ → ℕ) (p : Plan) (n j t : ℕ) (r : Stand) where
+module _ (f : ℕ → ℕ → ℕ → ℕ → ℕ) (p : Plan) (n j t : ℕ) (r : Option Stand) where
   pub ranks_picked : p.ranked ≡ true → Picked (RowsFrom n 0 (rows_in p n)) f p j t r → Picked (OfSteps p n) f p j t r
   ranks_picked k d =
       picked_among (RowsFrom n 0 (rows_in p n)) (OfSteps p n) f p j t r
@@ -129,20 +166,19 @@ module _ (f : ℕ → ℕ → ℕ → ℕ → ℕ) (p : Plan) (n j t : ℕ) (r :
 
 -- ---- where a step leads
 
-module _ (work : List ℕ) (base : ℕ) (p : Plan) (state row past j t : ℕ) (r : Stand) (same : r.gaps ≡ j) where
+module _ (work : List ℕ) (base : ℕ) (p : Plan) (state row past j t : ℕ) where
   looked_none :
-      p.across ≤ r.pixel → ((x : ℕ) → x + 1 ≡ past → Tells (stored_at work base p) p j t state row x → ⊥) →
-      Picked (JustBefore state row past) (stored_at work base p) p j t r
-  looked_none off none =
-      picked_none (JustBefore state row past) (stored_at work base p) p j t r same off (λ e m x a h. none x a.2 (rw (a.0, a.1) at h))
+      ((x : ℕ) → x + 1 ≡ past → Tells (stored_at work base p) p j t state row x → ⊥) →
+      Picked (JustBefore state row past) (stored_at work base p) p j t None
+  looked_none none = λ e m x a h. none x a.2 (rw (a.0, a.1) at h)
 
   -- the row does not have it
   module _ (lo hi : ℕ) (is-lo : lo ≡ row_lo p state row) (is-hi : hi ≡ row_hi p state row) where
-    pub looked_under : p.across ≤ r.pixel → past ≤ lo → Picked (JustBefore state row past) (stored_at work base p) p j t r
-    looked_under off l = looked_none off (λ x e h. omega (arith, h.low))
+    pub looked_under : past ≤ lo → Picked (JustBefore state row past) (stored_at work base p) p j t None
+    looked_under l = looked_none (λ x e h. omega (arith, h.low))
 
-    pub looked_over : p.across ≤ r.pixel → hi < past → Picked (JustBefore state row past) (stored_at work base p) p j t r
-    looked_over off l = looked_none off (λ x e h. omega (arith, h.high))
+    pub looked_over : hi < past → Picked (JustBefore state row past) (stored_at work base p) p j t None
+    looked_over l = looked_none (λ x e h. omega (arith, h.high))
 
     -- the number that the code reads
     module _ (at v : ℕ) (is_at : at ≡ base + row * row_size p + j * p.across) (is-v : v ≡ get_or work (at + (past - 1)) 0) (within : lo < past) where
@@ -150,25 +186,36 @@ module _ (work : List ℕ) (base : ℕ) (p : Plan) (state row past j t : ℕ) (r
       number_read x e =
           let there : at + (past - 1) ≡ base + (row * row_size p + (j * p.across + x)) = omega arith in is-v ∙ ap (λ (i : ℕ). get_or work i 0) there
 
-      pub looked_low : p.across ≤ r.pixel → v < t → Picked (JustBefore state row past) (stored_at work base p) p j t r
-      looked_low off low = looked_none off (λ x e h. omega (arith, h.counts, number_read x e))
+      pub looked_low : v < t → Picked (JustBefore state row past) (stored_at work base p) p j t None
+      looked_low low = looked_none (λ x e h. omega (arith, h.counts, number_read x e))
 
       pub looked_high :
-          r.state ≡ state → r.row ≡ row → r.pixel ≡ past - 1 → row < rows_in p state → past ≤ hi → hi ≤ p.across → t ≤ v →
-          Picked (JustBefore state row past) (stored_at work base p) p j t r
-      looked_high es em ex there below wide high =
-          picked_one (JustBefore state row past) (stored_at work base p) p j t r same (omega arith) (es, em, omega arith)
-          (rw (es, em, ex)
-          (record { row = there; low = omega arith; high = omega arith; counts = omega (arith, number_read (past - 1) (omega arith)) }))
+          (r : Stand) → r.gaps ≡ j → r.state ≡ state → r.row ≡ row → r.pixel ≡ past - 1 → row < rows_in p state → past ≤ hi → hi ≤ p.across → t ≤ v →
+          Picked (JustBefore state row past) (stored_at work base p) p j t (Some r)
+      looked_high r same es em ex there below wide high =
+          record {
+            is_gaps = same;
+            on = omega arith;
+            among = (es, em, omega arith);
+            tells = rw (es, em, ex)
+                (record { row = there; low = omega arith; high = omega arith; counts = omega (arith, number_read (past - 1) (omega arith)) });
+          }
 
-module _ (f : ℕ → ℕ → ℕ → ℕ → ℕ) (p : Plan) (s : Stand) (y X t older upper : ℕ) (a : older ≡ min 1 y) (b : upper ≡ min 1 (2 - y)) (r : Stand) where
+module _ (f : ℕ → ℕ → ℕ → ℕ → ℕ) (p : Plan) (s : Stand) (y X t : ℕ) where
   pub tap_looked :
-      older ≤ s.state → upper ≤ s.row → Picked (JustBefore (s.state - older) (s.row - upper) (s.pixel + X)) f p s.gaps t r →
+      (e m : ℕ) (r : Option Stand) → s.state ≡ e + min 1 y → s.row ≡ m + min 1 (2 - y) → Picked (JustBefore e m (s.pixel + X)) f p s.gaps t r →
       Picked (TapTo s y X) f p s.gaps t r
-  tap_looked h k d =
-      picked_among (JustBefore (s.state - older) (s.row - upper) (s.pixel + X)) (TapTo s y X) f p s.gaps t r
-      (λ e m x l o. record { state = omega (arith, o.0); row = omega (arith, o.1); pixel = sym o.2 })
-      (λ e m x l o. (omega (arith, o.state), omega (arith, o.row), sym o.pixel)) d
+  tap_looked e m r h k d =
+      picked_among (JustBefore e m (s.pixel + X)) (TapTo s y X) f p s.gaps t r
+      (λ i n x l o. record { state = omega (arith, o.0); row = omega (arith, o.1); pixel = sym o.2 })
+      (λ i n x l o. (omega (arith, o.state), omega (arith, o.row), sym o.pixel)) d
+
+  -- there are not so many states or rows
+  pub tap_first_state : s.state < min 1 y → Picked (TapTo s y X) f p s.gaps t None
+  tap_first_state l = λ e m x o h. omega (arith, o.state)
+
+  pub tap_first_row : s.row < min 1 (2 - y) → Picked (TapTo s y X) f p s.gaps t None
+  tap_first_row l = λ e m x o h. omega (arith, o.row)
 
 -- the row where it leads is there
 pub tap_row :
@@ -181,26 +228,13 @@ tap_row p sound e m older upper h few le =
     (λ a. let same : e - older ≡ e = omega arith in omega (arith, h, ap (rows_in p) same))
     (le_or_lt 1 older)
 
--- the three steps
-module _ (f : ℕ → ℕ → ℕ → ℕ → ℕ) (p : Plan) (s : Stand) (j t : ℕ) (r0 : Stand) (d0 : Picked (TapTo s p.reach.y0 p.reach.x0) f p j t r0) where
-  pub first_picked : r0.pixel < p.across → Picked (StepTo p s) f p j t r0
-  first_picked h =
-      record { is_gaps = d0.is_gaps; fits = λ k. (inl (d0.fits h).0, (d0.fits h).1); found = λ e m x _ _. h }
-
-  module _ (no0 : p.across ≤ r0.pixel) (r1 : Stand) (d1 : Picked (TapTo s p.reach.y1 p.reach.x1) f p j t r1) where
-    pub second_picked : r1.pixel < p.across → Picked (StepTo p s) f p j t r1
-    second_picked h =
-        record { is_gaps = d1.is_gaps; fits = λ k. (inr (inl (d1.fits h).0), (d1.fits h).1); found = λ e m x _ _. h }
-
-    pub third_picked :
-        p.across ≤ r1.pixel → (r2 : Stand) → Picked (TapTo s p.reach.y2 p.reach.x2) f p j t r2 → Picked (StepTo p s) f p j t r2
-    third_picked no1 r2 d2 =
-        record {
-          is_gaps = d2.is_gaps;
-          fits = λ h. (inr (inr (d2.fits h).0), (d2.fits h).1);
-          found = λ e m x a h.
-              ⊎_elim
-              (λ k. absurd (omega (arith, d0.found e m x k h)))
-              (λ a. ⊎_elim (λ k. absurd (omega (arith, d1.found e m x k h))) (λ k. d2.found e m x k h) a)
-              a;
-        }
+-- one of the three steps
+pub picked_again :
+    (f : ℕ → ℕ → ℕ → ℕ → ℕ) (p : Plan) (s : Stand) (t : ℕ) (r : Option Stand) →
+    Picked
+    (λ e m x. (TapTo s p.reach.y0 p.reach.x0 e m x ⊎ TapTo s p.reach.y1 p.reach.x1 e m x) ⊎ TapTo s p.reach.y2 p.reach.x2 e m x) f p s.gaps t r →
+    Picked (StepTo p s) f p s.gaps t r
+picked_again f p s t r d =
+    picked_among _ (StepTo p s) f p s.gaps t r
+    (λ e m x _ h. ⊎_elim (λ a. ⊎_elim (λ k. inl k) (λ k. inr (inl k)) a) (λ k. inr (inr k)) h)
+    (λ e m x _ h. ⊎_elim (λ k. inl (inl k)) (λ a. ⊎_elim (λ k. inl (inr k)) (λ k. inr k) a) h) d

@@ -9,59 +9,59 @@ use lib.Dec.{leb, ltb}
 use borrow.Author.Tests.{lt-ltb, le-ltb, le-leb, lt-leb, ltb-true, leb-true}
 use Rattle.plans.proofs.FormFacts.{both}
 use Rattle.walks.specs.Doors.{notes_size, can_search}
-use Rattle.walks.specs.declared.found.Notes.{Notes}
+use Rattle.walks.specs.declared.found.Paths.{Paths}
 
 -- the notes of one side are few
-pub notes_few : (n : Notes) → n.steps < 65536 → n.gaps ≤ 8 → notes_size n ≤ 589824
+pub notes_few : (n : Paths) → n.steps < 65536 → n.gaps ≤ 8 → notes_size n ≤ 589824
 notes_few n a b = mul-le-mul {n₁ = n.steps + 1} {m₁ = n.gaps + 1} {n₂ = 65536} {m₂ = 9} (omega arith) (omega arith)
 
-module _ (n : Notes) (rank spare work : ℕ) where
-  pub search_1 : 65536 ≤ n.steps → false ≡ can_search n rank spare work
+module _ (n : Paths) (rank ending going : ℕ) where
+  pub search_1 : 65536 ≤ n.steps → false ≡ can_search n rank ending going
   unfolding can_search
   search_1 a = rw (le-ltb n.steps 65536 a) refl
 
-  pub search_2 : n.steps < 65536 → 8 < n.gaps → false ≡ can_search n rank spare work
+  pub search_2 : n.steps < 65536 → 8 < n.gaps → false ≡ can_search n rank ending going
   unfolding can_search
   search_2 a b = rw (lt-ltb n.steps 65536 a, lt-leb n.gaps 8 b) refl
 
-  pub search_3 : n.steps < 65536 → n.gaps ≤ 8 → 65536 ≤ spare → false ≡ can_search n rank spare work
+  pub search_3 : n.steps < 65536 → n.gaps ≤ 8 → 65536 ≤ n.spare → false ≡ can_search n rank ending going
   unfolding can_search
-  search_3 a b d = rw (lt-ltb n.steps 65536 a, le-leb n.gaps 8 b, le-ltb spare 65536 d) refl
+  search_3 a b d = rw (lt-ltb n.steps 65536 a, le-leb n.gaps 8 b, le-ltb n.spare 65536 d) refl
 
-  module _ (few : n.steps < 65536) (gaps : n.gaps ≤ 8) (near : spare < 65536) where
-    pub search_4 : n.steps + spare < rank → false ≡ can_search n rank spare work
+  module _ (few : n.steps < 65536) (gaps : n.gaps ≤ 8) (near : n.spare < 65536) where
+    pub search_4 : n.steps + n.spare < rank → false ≡ can_search n rank ending going
     unfolding can_search
     search_4 a =
-        rw (lt-ltb n.steps 65536 few, le-leb n.gaps 8 gaps, lt-ltb spare 65536 near, lt-leb rank (n.steps + spare) a) refl
+        rw (lt-ltb n.steps 65536 few, le-leb n.gaps 8 gaps, lt-ltb n.spare 65536 near, lt-leb rank (n.steps + n.spare) a) refl
 
-    pub search_5 : rank ≤ n.steps + spare → leb (n.ends + notes_size n) work ≡ false → false ≡ can_search n rank spare work
+    pub search_5 : rank ≤ n.steps + n.spare → ending < notes_size n → false ≡ can_search n rank ending going
     unfolding can_search
     search_5 a b =
-        rw (lt-ltb n.steps 65536 few, le-leb n.gaps 8 gaps, lt-ltb spare 65536 near, le-leb rank (n.steps + spare) a, b) refl
+        rw (lt-ltb n.steps 65536 few, le-leb n.gaps 8 gaps, lt-ltb n.spare 65536 near, le-leb rank (n.steps + n.spare) a, lt-leb (notes_size n) ending b) refl
 
     pub search_6 :
-        rank ≤ n.steps + spare → leb (n.ends + notes_size n) work ≡ true → leb (n.goes + notes_size n) work ≡ can_search n rank spare work
+        rank ≤ n.steps + n.spare → notes_size n ≤ ending → leb (notes_size n) going ≡ can_search n rank ending going
     unfolding can_search
     search_6 a b =
-        rw (lt-ltb n.steps 65536 few, le-leb n.gaps 8 gaps, lt-ltb spare 65536 near, le-leb rank (n.steps + spare) a, b) refl
+        rw (lt-ltb n.steps 65536 few, le-leb n.gaps 8 gaps, lt-ltb n.spare 65536 near, le-leb rank (n.steps + n.spare) a, le-leb (notes_size n) ending b) refl
 
   pub record Search : Type 0 where
     pub few : n.steps < 65536
     pub gaps : n.gaps ≤ 8
-    pub near : spare < 65536
-    pub standing : rank ≤ n.steps + spare
-    pub ends : n.ends + notes_size n ≤ work
-    pub goes : n.goes + notes_size n ≤ work
+    pub near : n.spare < 65536
+    pub standing : rank ≤ n.steps + n.spare
+    pub ends : notes_size n ≤ ending
+    pub goes : notes_size n ≤ going
 
-  pub search_facts : can_search n rank spare work ≡ true → Search
+  pub search_facts : can_search n rank ending going ≡ true → Search
   unfolding can_search
   search_facts t =
       let s = ltb n.steps 65536 in
       let g = leb n.gaps 8 in
-      let b = ltb spare 65536 in
-      let r = leb rank (n.steps + spare) in
-      let e = leb (n.ends + notes_size n) work in
-      let a5 = both (s && g && b && r && e) (leb (n.goes + notes_size n) work) t in
+      let b = ltb n.spare 65536 in
+      let r = leb rank (n.steps + n.spare) in
+      let e = leb (notes_size n) ending in
+      let a5 = both (s && g && b && r && e) (leb (notes_size n) going) t in
       let a4 = both (s && g && b && r) e a5.0 in
       let a3 = both (s && g && b) r a4.0 in
       let a2 = both (s && g) b a3.0 in
@@ -69,13 +69,13 @@ module _ (n : Notes) (rank spare work : ℕ) where
       record {
         few = ltb-true n.steps 65536 a1.0;
         gaps = leb-true n.gaps 8 a1.1;
-        near = ltb-true spare 65536 a2.1;
-        standing = leb-true rank (n.steps + spare) a3.1;
-        ends = leb-true (n.ends + notes_size n) work a4.1;
-        goes = leb-true (n.goes + notes_size n) work a5.1;
+        near = ltb-true n.spare 65536 a2.1;
+        standing = leb-true rank (n.steps + n.spare) a3.1;
+        ends = leb-true (notes_size n) ending a4.1;
+        goes = leb-true (notes_size n) going a5.1;
       }
 
-  pub search_if : Search → can_search n rank spare work ≡ true
+  pub search_if : Search → can_search n rank ending going ≡ true
   search_if h =
-      sym (search_6 h.few h.gaps h.near h.standing (le-leb (n.ends + notes_size n) work h.ends))
-      ∙ le-leb (n.goes + notes_size n) work h.goes
+      sym (search_6 h.few h.gaps h.near h.standing h.ends)
+      ∙ le-leb (notes_size n) going h.goes

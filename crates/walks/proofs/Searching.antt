@@ -1,6 +1,6 @@
 -- The search of the notes: row by row the best found so far is not below any term that was looked at.
 use Prim.Native.Nat.{ℕ, ◌+◌, ◌-◌, ◌≤◌, ◌<◌, min}
-use mathlib.Core.Path.{◌≡◌, refl, ap, ◌∙◌}
+use mathlib.Core.Path.{◌≡◌, refl}
 use mathlib.Core.List.{List}
 use mathlib.Core.Logic.{inl, inr, ⊎_elim}
 use native.Mathlib.Omega.{arith}
@@ -8,15 +8,27 @@ use lib.ListN.{get_or}
 use Rattle.basics.proofs.Numbers.{le_or_lt}
 use Rattle.walks.specs.Searching.{shared_at, Possible, RowSearched, Searched}
 use Rattle.walks.specs.declared.found.Found.{Found}
+use Rattle.walks.proofs.Parts.{part, part_at}
 
 -- ---- one row
 
--- the value that the code makes of a term
-pub shared_is :
-    (work : List ℕ) (ends goes gaps own i v a : ℕ) → a ≡ min (get_or work (ends + i) 0) (get_or work (goes + (gaps - i)) 0) → v ≡ min own a →
-    v ≡ shared_at work ends goes gaps own i
+-- what is made of a term by the parts of the notes
+pub shared_part :
+    (ends goes : List ℕ) (end go gaps planes own i : ℕ) → planes ≡ gaps + 1 → i < planes →
+    min own (min (get_or (part ends end (end + planes)) i 0) (get_or (part goes go (go + planes)) (gaps - i) 0)) ≡ shared_at ends goes end go gaps own i
 unfolding shared_at
-shared_is work ends goes gaps own i v a ea ev = ev ∙ ap (λ (n : ℕ). min own n) ea
+shared_part ends goes end go gaps planes own i e h =
+    rw (part_at ends end (end + planes) i (omega arith), part_at goes go (go + planes) (gaps - i) (omega arith)) refl
+
+-- the same terms
+pub row_same :
+    (f g : ℕ → ℕ) (n index l : ℕ) (old new : Found) → ((i : ℕ) → i < n → f i ≡ g i) → RowSearched f n index l old new → RowSearched g n index l old new
+row_same f g n index l old new e d =
+    record {
+      not_below = d.not_below;
+      best = λ i h. omega (arith, e i h, d.best i h);
+      source = ⊎_elim inl (λ s. inr (s.0, s.1, s.2, omega (arith, s.3, e new.gaps s.2))) d.source;
+    }
 
 module _ (terms : ℕ → ℕ) (index l : ℕ) (old : Found) where
   pub row_none : RowSearched terms 0 index l old old

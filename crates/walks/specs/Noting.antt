@@ -33,10 +33,10 @@ abbrev pub row_ended : List ℕ → ℕ → ℕ → ℕ → ℕ → ℕ → ℕ 
 row_ended work slack keys at across j x = ended_at work slack (keys + x) (at + (j * across + x))
 
 -- v is a number of one of the first rows of state e, which are noted by their steps
-pub record FromState (p : Plan) (f : ℕ → ℕ → ℕ → ℕ) (to e rows q v : ℕ) : Type 0 where
+pub record FromState (p : Plan) (f : ℕ → ℕ → ℕ → ℕ) (e rows q v : ℕ) : Type 0 where
   pub row : ℕ
   pub row_below : row < rows
-  pub number : FromRow (f row) (row_lo p e row) (row_hi p e row) (to + steps_at p e row * p.planes) p.planes q v
+  pub number : FromRow (f row) (row_lo p e row) (row_hi p e row) (steps_at p e row * p.planes) p.planes q v
 
 -- one more than the most steps that walks of state e have
 unfoldable pub steps_past : Plan → ℕ → ℕ

@@ -1,6 +1,6 @@
 -- A pixel whose number is high enough, picked in a state that stands in the work buffer. These definitions serve contracts inside the engine only: no
 -- public contract cites them.
-use Rattle.std.specs.Prelude.{ℕ, ◌+◌, ◌-◌, ◌*◌, ◌≤◌, ◌<◌, min, ◌≡◌, false, List, ◌⊎◌, get_or}
+use Rattle.std.specs.Prelude.{ℕ, ◌+◌, ◌-◌, ◌*◌, ◌≤◌, ◌<◌, min, ◌≡◌, false, List, Option, MatchOption, ◌⊎◌, get_or}
 use Rattle.plans.specs.Plans.{row_lo, row_hi, rows_in, steps_at, row_size}
 use Rattle.plans.specs.declared.plan.Plan.{Plan}
 use Rattle.walks.specs.declared.stand.Stand.{Stand}
@@ -16,11 +16,20 @@ pub record Tells (f : ℕ → ℕ → ℕ → ℕ → ℕ) (p : Plan) (j t e m x
 abbrev pub stored_at : List ℕ → ℕ → Plan → ℕ → ℕ → ℕ → ℕ → ℕ
 stored_at work base p e m j x = get_or work (base + (m * row_size p + (j * p.across + x))) 0
 
--- r is such a pixel among some of them, where there is one; else it is past the last pixel
-pub record Picked (Among : ℕ → ℕ → ℕ → Type 0) (f : ℕ → ℕ → ℕ → ℕ → ℕ) (p : Plan) (j t : ℕ) (r : Stand) : Type 0 where
-  pub is_gaps : r.gaps ≡ j
-  pub fits : r.pixel < p.across → Among r.state r.row r.pixel × Tells f p j t r.state r.row r.pixel
-  pub found : (e m x : ℕ) → Among e m x → Tells f p j t e m x → r.pixel < p.across
+-- s is such a pixel among some of them
+pub record PickedAt (Among : ℕ → ℕ → ℕ → Type 0) (f : ℕ → ℕ → ℕ → ℕ → ℕ) (p : Plan) (j t : ℕ) (s : Stand) : Type 0 where
+  pub is_gaps : s.gaps ≡ j
+  pub on : s.pixel < p.across
+  pub among : Among s.state s.row s.pixel
+  pub tells : Tells f p j t s.state s.row s.pixel
+
+-- r is such a pixel, where there is one
+abbrev pub Picked : (ℕ → ℕ → ℕ → Type 0) → (ℕ → ℕ → ℕ → ℕ → ℕ) → Plan → (j t : ℕ) → Option Stand → Type 0
+Picked Among f p j t r = MatchOption r ((e m x : ℕ) → Among e m x → Tells f p j t e m x → ⊥) (PickedAt Among f p j t)
+
+-- r is the first place below n where f is at least t, if there is one
+abbrev pub FirstOf : (ℕ → ℕ) → (n t : ℕ) → Option ℕ → Type 0
+FirstOf f n t r = MatchOption r ((k : ℕ) → k < n → f k < t) (λ x. (x < n) × (t ≤ f x) × ((k : ℕ) → k < x → f k < t))
 
 -- the pixels of some rows of a state
 abbrev pub RowsFrom : ℕ → ℕ → ℕ → ℕ → ℕ → ℕ → Type 0

@@ -2,15 +2,16 @@
 -- no public contract cites them.
 use Rattle.std.specs.Prelude.{ℕ, ◌+◌, ◌-◌, ◌*◌, ◌≤◌, ◌<◌, min, ◌≡◌, List, ◌⊎◌, get_or}
 use Rattle.walks.specs.declared.found.Found.{Found}
-use Rattle.walks.specs.declared.found.Notes.{Notes}
+use Rattle.walks.specs.declared.found.Paths.{Paths}
 
--- A path that has i gaps to x and the others from x on, by the notes of the one part and of the other; not above the key of x itself.
-unfoldable pub shared_at : List ℕ → ℕ → ℕ → ℕ → ℕ → ℕ → ℕ
-shared_at work ends goes gaps own i = min own (min (get_or work (ends + i) 0) (get_or work (goes + (gaps - i)) 0))
+-- A path that has i gaps to x and the others from x on, by the notes of the one part and of the other, from these places on; not above the key of x
+-- itself.
+unfoldable pub shared_at : (ends goes : List ℕ) → ℕ → ℕ → ℕ → ℕ → ℕ → ℕ
+shared_at ends goes end go gaps own i = min own (min (get_or ends (end + i) 0) (get_or goes (go + (gaps - i)) 0))
 
 -- the same for a path with l steps to x
-abbrev pub term_at : List ℕ → Notes → ℕ → ℕ → ℕ → ℕ
-term_at work n own l i = shared_at work (n.ends + l * (n.gaps + 1)) (n.goes + (n.steps - l) * (n.gaps + 1)) n.gaps own i
+abbrev pub term_at : (ends goes : List ℕ) → Paths → ℕ → ℕ → ℕ → ℕ
+term_at ends goes n own l i = shared_at ends goes (l * (n.gaps + 1)) ((n.steps - l) * (n.gaps + 1)) n.gaps own i
 
 -- l is a number of steps to x that a path can have
 pub record Possible (steps spare rank l : ℕ) : Type 0 where

@@ -1,32 +1,35 @@
 // The doors: a state noted, the far end of a walk found, a step taken and notes searched, where the plan can
 // be followed and what is lent has room. Else nothing is noted, no pixel is found, and what was found before
-// stays.
-ghost use Rattle.std.specs.Prelude.{◌≡◌, true, ◌+◌, ◌<◌, length};
+// stays. By hand: the work buffer is lent whole, with where a state begins, since the keys that its rows read stand
+// at the head of the same buffer (fixed memory). That such a state has room there, and that a row and its gaps are
+// the plan's, the functions behind the doors say each, of `work`, `base` and the numbers: in a type that holds the
+// buffer a clause would read `state.now.work.now` for `work.now`, which is no plainer.
+ghost use Rattle.std.specs.Prelude.{◌≡◌, true, ◌+◌, ◌<◌, None, length};
 ghost use Rattle.basics.specs.Cases.{EitherBy};
 ghost use Rattle.plans.specs.Plans.{rows_in};
 ghost use Rattle.walks.specs.Noting.{Lifted, FromState, steps_past};
 ghost use Rattle.walks.specs.Endings.{ended_in};
 ghost use Rattle.walks.specs.Picking.{stored_at, Picked, OfSteps, StepTo};
 ghost use Rattle.walks.specs.Searching.{term_at, Searched};
-ghost use Rattle.walks.specs.Doors.{can_read, can_note, can_end, on_row, can_step, can_search, nowhere};
+ghost use Rattle.walks.specs.Doors.{can_read, can_note, can_end, on_row, can_step, can_search};
 
-use crate::found::{Found, Notes};
+use crate::found::{Found, Paths};
 use crate::stand::Stand;
 use crate::{far_end, found, notes, step};
-use plans::Plan;
+use plans::{Followed, Plan};
 use states::lies_in;
 
 // Whether the plan can be followed and a state of it stands at `base`, behind the keys.
 fn can_read(plan: Plan, base: usize, work: usize) -> bool
     ensures { result ≡ can_read plan base work }
 {
-    if !plans::is_well_formed(plan) {
+    let Some(followed) = Followed::new(plan) else {
+        return false;
+    };
+    if followed.keys_size() > base {
         return false;
     }
-    if plan.lines * plan.across > base {
-        return false;
-    }
-    lies_in(base, plan.rows * (plan.planes * plan.across), work)
+    lies_in(base, followed.state_size(), work)
 }
 
 // One more than the most steps that walks of state e have.
@@ -41,8 +44,8 @@ fn steps_past(plan: Plan, e: usize) -> usize
 }
 
 // Whether the state can be read and all its notes find room.
-fn can_note(plan: Plan, e: usize, to: usize, base: usize, notes: usize, work: usize) -> bool
-    ensures { result ≡ can_note plan e to base notes work }
+fn can_note(plan: Plan, e: usize, base: usize, notes: usize, work: usize) -> bool
+    ensures { result ≡ can_note plan e base notes work }
 {
     if !can_read(plan, base, work) {
         return false;
@@ -53,40 +56,27 @@ fn can_note(plan: Plan, e: usize, to: usize, base: usize, notes: usize, work: us
     if base > 65536 {
         return false;
     }
-    lies_in(to, steps_past(plan, e) * plan.planes, notes)
+    steps_past(plan, e) * plan.planes <= notes
 }
 
-// The notes from `to` on rise to all rows of state e, which stands at `base`: each row to the notes of its
+// The notes rise to all rows of state e, which stands at `base`: each row to the notes of its
 // number of steps. A walk counts for its number, but where it ends on a gap for no more than the slack.
 pub fn note_state(
     notes: &mut [u16],
-    to: usize,
     work: &[u16],
     base: usize,
     plan: Plan,
     e: usize,
     slack: u16,
 ) -> bool
-    ensures value { result ≡ can_note plan e to base (length notes.old) (length work.now) }
-    ensures either { EitherBy result (Lifted (FromState plan (ended_in work.now slack base plan e) to e (rows_in plan e)) notes.old notes.new) (notes.new ≡ notes.old) }
+    ensures value { result ≡ can_note plan e base (length notes.old) (length work.now) }
+    ensures either { EitherBy result (Lifted (FromState plan (ended_in work.now slack base plan e) e (rows_in plan e)) notes.old notes.new) (notes.new ≡ notes.old) }
 {
-    if !can_note(plan, e, to, base, notes.len(), work.len()) {
+    if !can_note(plan, e, base, notes.len(), work.len()) {
         return false;
     }
-    notes::note_state(notes, to, work, base, plan, e, slack);
+    notes::note_state(notes, work, base, Followed { plan }, e, slack);
     true
-}
-
-// The pixel past the last.
-fn nowhere(plan: Plan, gaps: usize) -> Stand
-    ensures { result ≡ nowhere plan gaps }
-{
-    Stand {
-        state: 0,
-        row: 0,
-        pixel: plan.across,
-        gaps: gaps,
-    }
 }
 
 // Whether the state can be read and walks have so many steps and gaps.
@@ -105,8 +95,8 @@ fn can_end(plan: Plan, base: usize, steps: usize, gaps: usize, work: usize) -> b
     steps < plans::rows_in(plan, 0)
 }
 
-// Where a walk of so many steps with so many gaps may end that counts at t: a pixel of the state that begins at
-// `base`, or the one past the last.
+// Where a walk of so many steps with so many gaps may end that counts at t, if it may: a pixel of the state that
+// begins at `base`.
 pub fn find_end(
     work: &[u16],
     base: usize,
@@ -115,13 +105,13 @@ pub fn find_end(
     gaps: usize,
     t: u16,
     slack: u16,
-) -> Stand
-    ensures { EitherBy (can_end plan base steps gaps (length work.now)) (Picked (OfSteps plan steps) (ended_in work.now slack base plan) plan gaps t result) (result ≡ nowhere plan gaps) }
+) -> Option<Stand>
+    ensures { EitherBy (can_end plan base steps gaps (length work.now)) (Picked (OfSteps plan steps) (ended_in work.now slack base plan) plan gaps t result) (result ≡ None) }
 {
     if !can_end(plan, base, steps, gaps, work.len()) {
-        return nowhere(plan, gaps);
+        return None;
     }
-    far_end::find_end(work, base, plan, steps, gaps, t, slack)
+    far_end::find_end(work, base, Followed { plan }, steps, gaps, t, slack)
 }
 
 // Whether a stand is in a row of the plan.
@@ -150,55 +140,55 @@ fn can_step(plan: Plan, base: usize, stand: Stand, work: usize) -> bool
     is_on_row(plan, stand)
 }
 
-// One step nearer to the picked pixel, to one whose number is at least t, or to the pixel past the last. The
-// state that has the numbers begins at `base`.
-pub fn nearer(work: &[u16], base: usize, plan: Plan, stand: Stand, t: u16) -> Stand
-    ensures { EitherBy (can_step plan base stand (length work.now)) (Picked (StepTo plan stand) (stored_at work.now base plan) plan stand.gaps t result) (result ≡ nowhere plan stand.gaps) }
+// One step nearer to the picked pixel, to one whose number is at least t, if there is one. The state that has
+// the numbers begins at `base`.
+pub fn nearer(work: &[u16], base: usize, plan: Plan, stand: Stand, t: u16) -> Option<Stand>
+    ensures { EitherBy (can_step plan base stand (length work.now)) (Picked (StepTo plan stand) (stored_at work.now base plan) plan stand.gaps t result) (result ≡ None) }
 {
     if !can_step(plan, base, stand, work.len()) {
-        return nowhere(plan, stand.gaps);
+        return None;
     }
-    step::nearer(work, base, plan, stand, t)
+    step::nearer(work, base, Followed { plan }, stand, t)
 }
 
 // Whether the notes of both sides are there, and the pixel stands where paths can have it.
-fn can_search(notes: Notes, rank: usize, spare: usize, work: usize) -> bool
-    ensures { result ≡ can_search notes rank spare work }
+fn can_search(paths: Paths, rank: usize, ends: usize, goes: usize) -> bool
+    ensures { result ≡ can_search paths rank ends goes }
 {
-    if notes.steps >= 65536 {
+    if paths.steps >= 65536 {
         return false;
     }
-    if notes.gaps > 8 {
+    if paths.gaps > 8 {
         return false;
     }
-    if spare >= 65536 {
+    if paths.spare >= 65536 {
         return false;
     }
-    if rank > notes.steps + spare {
+    if rank > paths.steps + paths.spare {
         return false;
     }
-    let size = (notes.steps + 1) * (notes.gaps + 1);
-    if !lies_in(notes.ends, size, work) {
+    let size = (paths.steps + 1) * (paths.gaps + 1);
+    if size > ends {
         return false;
     }
-    lies_in(notes.goes, size, work)
+    size <= goes
 }
 
-// The best of what was found and of all paths of a direction that can have the pixel, whose rank this is. The
-// direction's longest paths have `spare` steps more.
+// The best of what was found and of all paths of a direction that can have the pixel, whose rank this is, by the
+// notes of the walks that end there and of those that go on from it.
 pub fn search(
-    work: &[u16],
-    notes: Notes,
+    ends: &[u16],
+    goes: &[u16],
+    paths: Paths,
     own: u16,
     index: usize,
     rank: usize,
-    spare: usize,
     found: Found,
 ) -> Found
-    ensures { EitherBy (can_search notes rank spare (length work.now)) (Searched (term_at work.now notes own) notes.steps notes.gaps spare rank index (notes.steps + 1) found result) (result ≡ found) }
+    ensures { EitherBy (can_search paths rank (length ends.now) (length goes.now)) (Searched (term_at ends.now goes.now paths own) paths.steps paths.gaps paths.spare rank index (paths.steps + 1) found result) (result ≡ found) }
 {
-    if !can_search(notes, rank, spare, work.len()) {
+    if !can_search(paths, rank, ends.len(), goes.len()) {
         return found;
     }
-    found::search(work, notes, own, index, rank, spare, found)
+    found::search(ends, goes, paths, own, index, rank, found)
 }

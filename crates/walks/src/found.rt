@@ -1,7 +1,7 @@
 // The best path through the picked pixel, by the notes of the walks that end there and of those that go on
 // from it.
-ghost use Rattle.std.specs.Prelude.{◌≡◌, ◌+◌, ◌-◌, ◌*◌, ◌≤◌, ◌<◌, min, length};
-ghost use Rattle.walks.specs.Searching.{shared_at, term_at, RowSearched, Searched};
+ghost use Rattle.std.specs.Prelude.{◌≡◌, ℕ, ◌+◌, ◌-◌, ◌*◌, ◌≤◌, ◌<◌, min, length, get_or};
+ghost use Rattle.walks.specs.Searching.{term_at, RowSearched, Searched};
 
 // A path through the picked pixel: the index of its direction, the key at which it counts, and how many
 // of its steps and of its gaps lie before the pixel.
@@ -13,87 +13,73 @@ pub struct Found {
     pub gaps: usize,
 }
 
-// The notes of a direction: where those of the walks that end at the pixel begin, where those of the
-// walks that go on from it, and how many steps and gaps a path has.
+// How many steps and gaps the paths of a direction have, and how many steps more its longest paths.
 #[derive(Clone, Copy)]
-pub struct Notes {
-    pub ends: usize,
-    pub goes: usize,
+pub struct Paths {
     pub steps: usize,
     pub gaps: usize,
+    pub spare: usize,
 }
 
-// The paths with l steps before the pixel, for every way to share the gaps: i of them before it, by
-// the notes from `ends` on, and the others after it, by those from `goes` on.
+// The paths with l steps before the pixel, for every way to share the gaps: i of them before it, by the notes
+// `ends`, and the others after it, by `goes`.
 fn search_row(
-    work: &[u16],
-    ends: usize,
-    goes: usize,
+    ends: &[u16],
+    goes: &[u16],
     gaps: usize,
     own: u16,
     index: usize,
     l: usize,
     found: Found,
 ) -> Found
-    requires { (gaps ≤ 8) × (ends + gaps < length work.now) × (goes + gaps < length work.now) }
-    ensures { RowSearched (shared_at work.now ends goes gaps own) (gaps + 1) index l found result }
+    requires { (gaps ≤ 8) × (length ends.now ≡ gaps + 1) × (length goes.now ≡ gaps + 1) }
+    ensures { RowSearched (λ (i : ℕ). min own (min (get_or ends.now i 0) (get_or goes.now (gaps - i) 0))) (gaps + 1) index l found result }
 {
     let mut best = found;
-    let mut i = 0;
-    while i < gaps + 1 {
-        let key = states::min2(own, states::min2(work[ends + i], work[goes + (gaps - i)]));
+    for i in 0..=gaps {
+        let key = own.min(ends[i].min(goes[gaps - i]));
         if key > best.key {
             best = Found {
-                index: index,
-                key: key,
+                index,
+                key,
                 before: l,
                 gaps: i,
             };
         }
-        i += 1;
     }
     best
 }
 
-// All paths of a direction that can have the pixel, whose rank this is. The direction's longest paths
-// have `spare` steps more.
+// All paths of a direction that can have the pixel, whose rank this is, by the notes of the walks that end there
+// and of those that go on from it.
 pub(crate) fn search(
-    work: &[u16],
-    notes: Notes,
+    ends: &[u16],
+    goes: &[u16],
+    paths: Paths,
     own: u16,
     index: usize,
     rank: usize,
-    spare: usize,
     found: Found,
 ) -> Found
-    requires steps_bound { (notes.steps < 65536) × (notes.gaps ≤ 8) × (rank ≤ notes.steps + spare) × (spare < 65536) }
-    requires gaps_in_bounds { notes.ends + (notes.steps + 1) * (notes.gaps + 1) ≤ length work.now }
-    requires gaps_in_bounds_2 { notes.goes + (notes.steps + 1) * (notes.gaps + 1) ≤ length work.now }
-    ensures { Searched (term_at work.now notes own) notes.steps notes.gaps spare rank index (notes.steps + 1) found result }
+    requires steps_bound { (paths.steps < 65536) × (paths.gaps ≤ 8) × (rank ≤ paths.steps + paths.spare) × (paths.spare < 65536) }
+    requires gaps_in_bounds { ((paths.steps + 1) * (paths.gaps + 1) ≤ length ends.now) × ((paths.steps + 1) * (paths.gaps + 1) ≤ length goes.now) }
+    ensures { Searched (term_at ends.now goes.now paths own) paths.steps paths.gaps paths.spare rank index (paths.steps + 1) found result }
 {
-    let planes = notes.gaps + 1;
-    let past = least(rank, notes.steps) + 1;
+    let planes = paths.gaps + 1;
+    let past = rank.min(paths.steps) + 1;
     let mut best = found;
-    let mut l = over(rank, spare);
-    while l < past {
-        let ends = notes.ends + l * planes;
-        let goes = notes.goes + (notes.steps - l) * planes;
-        best = search_row(work, ends, goes, notes.gaps, own, index, l, best);
-        l += 1;
+    for l in rank.saturating_sub(paths.spare)..past {
+        let end = l * planes;
+        let go = (paths.steps - l) * planes;
+        best = search_row(
+            &ends[end..end + planes],
+            &goes[go..go + planes],
+            paths.gaps,
+            own,
+            index,
+            l,
+            best,
+        );
     }
     best
-}
-
-// The lesser of two.
-pub fn least(a: usize, b: usize) -> usize
-    ensures { result ≡ min a b }
-{
-    if a < b { a } else { b }
-}
-
-// By how much a is more than b, 0 where it is not.
-fn over(a: usize, b: usize) -> usize
-    ensures { result ≡ a - b }
-{
-    if a < b { 0 } else { a - b }
 }

@@ -17,6 +17,6 @@ mod step;
 mod taken;
 
 pub use doors::{find_end, nearer, note_state, search};
-pub use found::{Found, Notes, least};
+pub use found::{Found, Paths};
 pub use stand::Stand;
 pub use step::gaps_after;

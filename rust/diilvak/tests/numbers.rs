@@ -31,7 +31,7 @@ fn refusals_of_the_package() -> Numbers {
 /// The refusals of the proved code by the headers' names. Those of texts are the program's alone, and that of
 /// the lamp meter's figures is the add-on's, whose own test looks for it.
 fn refusals_of_the_code() -> Numbers {
-    let mut numbers = constants(&["crates/plate/src/refusal.rt"]);
+    let mut numbers = names::cases("crates/plate/src/refusal.rt", "pub enum Reason {");
     for of_others in ["LINE", "TEXT", "FIGURE"] {
         assert!(numbers.remove(of_others).is_some(), "{of_others}");
     }

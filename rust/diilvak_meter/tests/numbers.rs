@@ -28,7 +28,7 @@ fn refusals_of_the_package() -> Numbers {
 
 #[test]
 fn refusals() {
-    let number = constants(&["crates/plate/src/refusal.rt"])["FIGURE"];
+    let number = names::cases("crates/plate/src/refusal.rt", "pub enum Reason {")["FIGURE"];
     let code = Numbers::from([("BAD_FIGURE".to_string(), number)]);
     assert_eq!(taken(&mut macros(), |name| name.starts_with("BAD_")), code);
     assert_eq!(refusals_of_the_package(), code);

@@ -31,6 +31,20 @@ pub fn constants(files: &[&str]) -> Numbers {
     numbers
 }
 
+/// The cases of an enum in a source file, with their numbers: `Name = NUMBER,` after its first line.
+pub fn cases(file: &str, first_line: &str) -> Numbers {
+    let source = read(file);
+    let (_, after) = source.split_once(&format!("{first_line}\n")).expect(first_line);
+    let (inside, _) = after.split_once("\n}").expect("an enum has an end");
+    let mut numbers = Numbers::new();
+    for line in inside.lines() {
+        let (name, value) = line.trim().split_once(" = ").expect("each case has a number");
+        let value = value.strip_suffix(',').expect("and a comma");
+        add(&mut numbers, file, &upper(name), value);
+    }
+    numbers
+}
+
 /// The numbers of headers' macros, by their names after `DIILVAK_`. Those without a number guard a header.
 pub fn macros(headers: &[&str]) -> Numbers {
     let mut numbers = Numbers::new();

@@ -4,7 +4,6 @@ use mathlib.Core.Path.{sym, ap, ◌∙◌}
 use mir.Syntax.{w16}
 use mir.ValLaws.{to_z-of_z}
 use native.Mathlib.Omega.{arith}
-use Rattle.plate.specs.Answers.{answered}
 use Rattle.plate.specs.Refusals.{Clear}
 use Rattle.plate.proofs.Verdicts.{accepted_clear}
 use Rattle.book.specs.Refusals.{entry_checks}
@@ -15,15 +14,14 @@ use Rattle.book.proofs.Book.enter.Goals.{After-without-book, In_default}
 
 -- past the refusal the book takes the entry
 clear : (c : In_default) → Clear (entry_checks c.args.self c.args.key)
-clear c = (accepted_clear _ tt tt (sym c.judge-answer.ensures ∙ ap answered c.in_default.is)).1
+clear c = (accepted_clear _ tt tt (sym c.in_default.ensures)).1
 
 -- and there is a slot for it
 slot : (c : After-without-book) → c.without-book.result.count < 256
 slot c = omega (arith, ap (λ (b : Book). b.count) c.without-book.ensures, slot_left _ _ (clear c.before))
 
-pub returns-in-Refused : goal.returns-in-Refused
-returns-in-Refused c =
-    c.refused.ensures ∙ enter_refused c.args.self c.args.key c.args.level c.args.direction (sym (ap answered c.in-Refused.is) ∙ c.judge-answer.ensures)
+pub returns-in-Err : goal.returns-in-Err
+returns-in-Err c = c.refused.ensures ∙ enter_refused c.args.self c.args.key c.args.level c.args.direction c.in-Err.ensures
 
 pub without-book-requires : goal.without-book-requires
 without-book-requires c = shows_few _ _ (clear c)

@@ -1,23 +1,37 @@
 -- `judge` takes out the entries of the key; where 256 are left the book was full and none was taken out.
+use Prim.Native.Nat.{◌≤◌}
+use mathlib.Core.Path.{◌∙◌}
 use native.Mathlib.Omega.{arith}
-use Rattle.book.proofs.Deciding.{entry_overfull, entry_full, entry_spent, entry_done}
+use borrow.Author.Tests.{ltb-true, ltb-false, eqb-true, eqb-false}
+use Rattle.std.proofs.lemmas.Result.{err_from_is_err_and}
+use Rattle.plate.proofs.Verdicts.{check_passes}
+use Rattle.book.specs.Refusals.{is_spent}
+use Rattle.book.proofs.Deciding.{refusing, entry_overfull, entry_full, entry_decides}
 use Rattle.book.proofs.Book.judge.Goals as goal
+use Rattle.book.proofs.Book.judge.Goals.{In_ok-refuse_if}
 
-pub returns-then-self-gt-MAX_ENTRIES : goal.returns-then-self-gt-MAX_ENTRIES
-returns-then-self-gt-MAX_ENTRIES c = entry_overfull c.args.self c.if-self-gt-MAX_ENTRIES.true c.args.key
+few : (c : In_ok-refuse_if) → c.args.self.count ≤ 256
+few c = ltb-false _ _ (check_passes _ c.in_ok-refuse_if.ensures)
+
+pub returns-in_err-refuse_if : goal.returns-in_err-refuse_if
+returns-in_err-refuse_if c =
+    let p = err_from_is_err_and c.from_residual.result c.from_residual.ensures.1 in
+    let r = refusing _ c.in_err-refuse_if.ensures in
+    rw (p.1, p.2) (r.1 ∙ entry_overfull c.args.self (ltb-true _ _ r.0) c.args.key)
+
+pub without-rest-requires : goal.without-rest-requires
+without-rest-requires c = few c
 
 -- what is left once they are out, with what the checks before have found; a book's array has its length
-pub returns-then-rest-eq-MAX_ENTRIES : goal.returns-then-rest-eq-MAX_ENTRIES
-returns-then-rest-eq-MAX_ENTRIES c =
-    entry_full c.args.self c.if-self-gt-MAX_ENTRIES.false (omega arith) c.args.key c.without-rest.result c.without-rest.ensures
-    c.if-rest-eq-MAX_ENTRIES.true
-
-pub returns-then-self-eq-MAX_SERIAL : goal.returns-then-self-eq-MAX_SERIAL
-returns-then-self-eq-MAX_SERIAL c =
-    entry_spent c.args.self c.if-self-gt-MAX_ENTRIES.false (omega arith) c.args.key c.without-rest.result c.without-rest.ensures
-    c.if-rest-eq-MAX_ENTRIES.false c.if-self-eq-MAX_SERIAL.true
+pub returns-in_err-refuse_if-2 : goal.returns-in_err-refuse_if-2
+returns-in_err-refuse_if-2 c =
+    let p = err_from_is_err_and c.from_residual-in_err-refuse_if-2.result c.from_residual-in_err-refuse_if-2.ensures.1 in
+    let r = refusing _ c.in_err-refuse_if-2.ensures in
+    rw (p.1, p.2)
+    (r.1 ∙ entry_full c.args.self (few (goal.at.returns-in_err-refuse_if-2 c).In_ok-refuse_if) (omega arith) c.args.key c.without-rest.result c.without-rest.ensures (eqb-true _ _ r.0))
 
 pub returns : goal.returns
+unfolding is_spent
 returns c =
-    entry_done c.args.self c.if-self-gt-MAX_ENTRIES.false (omega arith) c.args.key c.without-rest.result c.without-rest.ensures
-    c.if-rest-eq-MAX_ENTRIES.false c.if-self-eq-MAX_SERIAL.false
+    c.refuse_if-3.ensures
+    ∙ entry_decides c.args.self (few (goal.at.returns c).In_ok-refuse_if) (omega arith) c.args.key c.without-rest.result c.without-rest.ensures (eqb-false _ _ (check_passes _ c.in_ok-refuse_if-2.ensures))

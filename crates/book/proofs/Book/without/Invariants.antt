@@ -1,9 +1,6 @@
-use Prim.Native.Nat.{◌-◌}
+use Rattle.book.specs.Entries.{standing}
 use Rattle.book.proofs.Taking.{MovedUp}
 use Rattle.book.proofs.Book.without.Given as goal
 
-abbrev pub invariant-loop-i : goal.invariant-loop-i
-invariant-loop-i l = MovedUp l.target l.self l.book l.left l.i
-
-abbrev pub decreases-loop-i : goal.decreases-loop-i
-decreases-loop-i l = l.count - l.i
+abbrev pub invariant-loop-entry : goal.invariant-loop-entry
+invariant-loop-entry l = MovedUp l.target (standing l.fn.self) l.book l.entry-index

@@ -1,19 +1,20 @@
--- `is_meant` goes by the target's case and compares number by number.
-use borrow.Author.Tests.{eq-eqb, ne_eqb}
+-- `is_meant` goes by the target's case: an entry's key is the key, or its serial number is the number.
+use Rattle.std.proofs.Common.{◌≡◌, refl, ◌∙◌}
+use lib.Dec.{eqb}
+use mathlib.Core.Bool.{Bool, true, false, ◌&&◌}
 use Rattle.book.specs.Entries.{is_meant}
 use Rattle.book.proofs.target.is_meant.Goals as goal
 
-pub returns-then-entry-key : goal.returns-then-entry-key
-unfolding is_meant
-returns-then-entry-key c = rw (c.in-OfKey.is, ne_eqb _ _ c.if-entry-key.true)
+grouped : (a b c : Bool) → (a && (b && c)) ≡ ((a && b) && c)
+grouped true b c = refl
+grouped false b c = refl
 
-pub returns-then-entry-key-2 : goal.returns-then-entry-key-2
+pub returns-in-OfKey : goal.returns-in-OfKey
 unfolding is_meant
-returns-then-entry-key-2 c = rw (c.in-OfKey.is, eq-eqb _ _ c.if-entry-key.false, ne_eqb _ _ c.if-entry-key-2.true)
-
-pub returns-else-entry-key-2 : goal.returns-else-entry-key-2
-unfolding is_meant
-returns-else-entry-key-2 c = rw (c.in-OfKey.is, eq-eqb _ _ c.if-entry-key.false, eq-eqb _ _ c.if-entry-key-2.false)
+returns-in-OfKey c =
+    let k = c.in-OfKey.key in
+    let e = c.args.entry in
+    rw c.in-OfKey.is ((rw c.from.ensures at c.eq.ensures) ∙ grouped (eqb e.plate k.plate) (eqb e.place k.place) (eqb e.mode k.mode))
 
 pub returns-in-OfSerial : goal.returns-in-OfSerial
 unfolding is_meant

@@ -11,12 +11,13 @@ use Rattle.correction.proofs.faults.is_bad_correction.Goals as goal
 pub returns-then-correction-lt-MIN_CORRECTION : goal.returns-then-correction-lt-MIN_CORRECTION
 unfolding bad_correction
 returns-then-correction-lt-MIN_CORRECTION c =
-    let t : lt_z c.signed_correction-correction.result min_correction ≡ true = rw (to_z-of_z w32 c.signed_correction-correction.result (record { sfits = c.signed_correction-correction.type_inv })) at c.if-correction-lt-MIN_CORRECTION.true in
-    rw (← c.signed_correction-correction.ensures, t)
+    let e = to_z-of_z w32 c.signed_correction-correction.result (record { sfits = c.signed_correction-correction.type_inv }) in
+    let t : lt_z c.signed_correction-correction.result min_correction ≡ true = rw e at c.if-correction-lt-MIN_CORRECTION.true in
+    rw (← c.signed_correction-correction.ensures, e, t)
 
-pub returns : goal.returns
+pub returns-else-correction-lt-MIN_CORRECTION : goal.returns-else-correction-lt-MIN_CORRECTION
 unfolding bad_correction
-returns c =
+returns-else-correction-lt-MIN_CORRECTION c =
     let e = to_z-of_z w32 c.signed_correction-correction.result (record { sfits = c.signed_correction-correction.type_inv }) in
     let t : lt_z c.signed_correction-correction.result min_correction ≡ false = rw e at c.if-correction-lt-MIN_CORRECTION.false in
     rw (← c.signed_correction-correction.ensures, e, t)

@@ -1,5 +1,4 @@
 -- `fill` fills the result from the front: the invariant says that its first i levels are those of the corrected plate and the others are as they were.
-use borrow.Author.Rules.{rules}
 use native.Mathlib.Omega.{arith}
 use mathlib.Core.Path.{◌≡◌, refl, sym, ◌∙◌}
 use lib.IntN.{pos}
@@ -13,13 +12,7 @@ use Rattle.plate.specs.Refusals.{bad_reading, bad_correction}
 use Rattle.correction.proofs.fill.fill.Goals as goal
 
 pub loop-i-init : goal.loop-i-init
-loop-i-init c = (search rules, refl, refl)
-
-pub offset_bounds-readings-i : goal.offset_bounds-readings-i
-offset_bounds-readings-i c = omega arith
-
-pub offset_bounds-words-i : goal.offset_bounds-words-i
-offset_bounds-words-i c = omega arith
+loop-i-init c = (refl, refl)
 
 pub corrected_level-requires : goal.corrected_level-requires
 corrected_level-requires c =
@@ -34,9 +27,8 @@ loop-i-preserved c =
     let n = zip_with-length corrected rs ws (omega arith) in
     let v : to_z w16 (of_z w16 c.corrected_level.result) ≡ get_or (corrected_plate rs ws) i (pos 0) =
     to_z-of_z w16 _ (record { sfits = c.corrected_level.type_inv }) ∙ c.corrected_level.ensures ∙ sym (zip_with_at corrected rs ws i 0 0 (pos 0) (omega arith) (omega arith)) in (
-      omega arith,
       simp length-set (omega arith),
-      rw (v, c.loop-i.invariant.2) (filled_more (corrected_plate rs ws) c.args.res.now i (pos 0) (omega arith) (omega arith)),
+      rw (v, c.loop-i.invariant.1) (filled_more (corrected_plate rs ws) c.args.res.now i (pos 0) (omega arith) (omega arith)),
     )
 
 pub returns : goal.returns
@@ -45,4 +37,4 @@ returns c =
     let rs = c.args.readings.now in
     let ws = c.args.words.now in
     let n = zip_with-length corrected rs ws (omega arith) in
-    c.loop-i.invariant.2 ∙ filled_all (corrected_plate rs ws) c.args.res.now c.loop-i.i (omega arith) (omega arith)
+    c.loop-i.invariant.1 ∙ filled_all (corrected_plate rs ws) c.args.res.now c.loop-i.i (omega arith) (omega arith)

@@ -1,12 +1,8 @@
 use mathlib.Core.Path.{◌≡◌}
 use mathlib.Core.List.{◌++◌}
-use Prim.Native.Nat.{◌≤◌, ◌-◌}
 use lib.ListN.{length, take, drop}
 use Rattle.plate.specs.Levels.{corrected_plate}
 use Rattle.correction.proofs.fill.fill.Given as goal
 
 abbrev pub invariant-loop-i : goal.invariant-loop-i
-invariant-loop-i l = (l.i ≤ length l.readings) × (length l.res ≡ length l.initial.res) × (l.res ≡ take l.i (corrected_plate l.readings l.words) ++ drop l.i l.initial.res)
-
-abbrev pub decreases-loop-i : goal.decreases-loop-i
-decreases-loop-i l = length l.readings - l.i
+invariant-loop-i l = (length l.res ≡ length l.initial.res) × (l.res ≡ take l.i (corrected_plate l.readings l.words) ++ drop l.i l.initial.res)

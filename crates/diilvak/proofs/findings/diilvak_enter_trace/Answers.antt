@@ -8,7 +8,7 @@ pub returns : goal.returns
 returns c =
     let e = rw c.setting_of-setting.ensures at c.enter_trace-done.ensures in
     let traced = c.enter_trace-done.result.traced in
-    let told = c.tell_trace-number.ensures in
+    let told = c.tell_trace.ensures in
     record {
       number_value = rw (← e.traced_value) told.value;
       level_after = rw (← e.traced_value) told.level_after;

@@ -13,4 +13,4 @@ returns-then-not-ranked c = rw (le-leb 1 _ (rw c.span_of.ensures at c.if-span_of
 
 pub returns : goal.returns
 unfolding keeps
-returns c = rw (c.frame_of-frame.ensures, le-leb 1 _ (rw c.span_of.ensures at c.if-span_of-lt1.false), c.if-not-ranked.false)
+returns c = rw (c.frame-frame.ensures, le-leb 1 _ (rw c.span_of.ensures at c.if-span_of-lt1.false), c.if-not-ranked.false)

@@ -1,9 +1,8 @@
-use Prim.Native.Nat.{◌+◌, ◌-◌, ◌≤◌}
+use Prim.Native.Nat.{◌+◌, ◌*◌}
 use Rattle.directions.specs.Gathering.{Risen}
 use Rattle.directions.proofs.gather.raise_row.Given as goal
 
 abbrev pub invariant-loop-x : goal.invariant-loop-x
-invariant-loop-x l = (l.x ≤ l.frame.across) × Risen l.frame l.ranked l.best l.initial.res l.res l.at (l.at + l.x)
-
-abbrev pub decreases-loop-x : goal.decreases-loop-x
-decreases-loop-x l = l.frame.across - l.x
+invariant-loop-x l =
+    let at = l.row * l.kept.frame.across in
+    Risen l.kept.frame l.kept.ranked l.best l.initial.res l.res at (at + l.x)

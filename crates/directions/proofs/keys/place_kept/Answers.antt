@@ -17,11 +17,15 @@ pub returns-then-q-width : goal.returns-then-q-width
 unfolding place_kept_by
 returns-then-q-width c = rw (sym c.keeps_keys.ensures ∙ c.if-not-keeps_keys.false, le-ltb _ _ c.if-q-width.true)
 
-pub place_in-requires : goal.place_in-requires
-place_in-requires c =
+pub invariant_of-place_at : goal.invariant_of-place_at
+invariant_of-place_at c =
+    record { kept_on = rw c.frame-frame.ensures (keeping _ _ _ _ (sym c.keeps_keys.ensures ∙ c.if-not-keeps_keys.false)).kept }
+
+pub place_at-requires : goal.place_at-requires
+place_at-requires c =
     let k = keeping _ _ _ _ (sym c.keeps_keys.ensures ∙ c.if-not-keeps_keys.false) in
-    let f = c.frame_of.ensures in record { kept_on = rw f k.kept; q_bound = rw (f, k.area) c.if-q-width.false }
+    rw (c.frame-frame.ensures, k.area) c.if-q-width.false
 
 pub returns : goal.returns
 returns c =
-    c.place_in.ensures ∙ rw c.frame_of.ensures (place_there _ _ _ _ _ (sym c.keeps_keys.ensures ∙ c.if-not-keeps_keys.false) c.if-q-width.false)
+    c.place_at.ensures ∙ rw c.frame-frame.ensures (place_there _ _ _ _ _ (sym c.keeps_keys.ensures ∙ c.if-not-keeps_keys.false) c.if-q-width.false)

@@ -8,14 +8,11 @@ use Rattle.theory.proofs.Opening.{levels_within}
 use Rattle.plate.proofs.ReadLevels.{level_small}
 use Rattle.filter_cases.proofs.sieving.read_through.Goals as goal
 
-pub loop-i-init : goal.loop-i-init
-loop-i-init c = (omega arith, λ p h. absurd (omega arith))
-
-pub loop-i-preserved : goal.loop-i-preserved
-loop-i-preserved c =
+pub loop-level-preserved : goal.loop-level-preserved
+loop-level-preserved c =
     let f = c.args.plate.now in
-    let here = level_small f c.loop-i.i c.level-1.given (omega arith) in
-    (omega arith, below_more (λ (p : ℕ). mag (level_at f p) < 32768) c.loop-i.i here c.loop-i.invariant.1)
+    let here = level_small f c.loop-level.level-index (omega arith) (omega arith) in
+    below_more (λ (p : ℕ). mag (level_at f p) < 32768) c.loop-level.level-index here c.loop-level.invariant
 
 pub returns : goal.returns
-returns c = levels_within c.args.plate.now (λ p h. c.loop-i.invariant.1 p (omega arith))
+returns c = levels_within c.args.plate.now (λ p h. c.loop-level.invariant p (omega arith))

@@ -1,60 +1,62 @@
 -- `correction` judges the lamp figure, then the dark one, and hands the difference of their means on to be rounded.
-use Rattle.std.proofs.Common.{◌≡◌, ◌≤◌, subst, arith, w32, SFits}
-use lib.Signed.{mag}
+use Rattle.std.proofs.Common.{◌≡◌, ℕ, true, sym, ap, ◌∙◌, subst, w16, Float, Option, Some, None, Result, Ok, Err}
 use mir.ValLaws.{to_z-of_z}
-use Rattle.meter.specs.Corrections.{eighths_of, difference_of, correction_of}
+use Rattle.std.specs.Option.{ok_or}
+use Rattle.std.proofs.lemmas.Result.{err_from_is_err_and}
+use Rattle.plate.specs.Answers.{number_by}
+use Rattle.plate.specs.Refusals.{Verdict, Verdict.accepted, Verdict.refused}
+use Rattle.plate.specs.RefusalNumbers.{refusal_figure}
+use Rattle.plate.specs.declared.refusal.Reason.TheVariants.{Figure as Reported}
+use Rattle.plate.specs.declared.refusal.Refusal.{Refusal}
+use Rattle.plate.proofs.Verdicts.{clash}
+use Rattle.meter.specs.Corrections.{bad_figure, eighths_of, difference_of, correction_of}
 use Rattle.meter.specs.Eighths.{IsEighths, Resolves}
-use Rattle.meter.specs.declared.Meter.{Meter}
-use Rattle.meter.specs.declared.figure.Resolved.{Resolved}
-use Rattle.meter.specs.declared.figure.Resolved.TheVariants.{Mean}
-use Rattle.meter.proofs.Halves.{rounded_small}
+use Rattle.meter.specs.declared.figure.Figure.{Figure}
 use Rattle.meter.proofs.Deciding.{lamp_refused, dark_refused, both_accepted}
 use Rattle.meter.proofs.Meter.correction.Goals as goal
-use Rattle.meter.proofs.Meter.correction.Goals.{After-difference, After-rounded}
+use Rattle.meter.proofs.Meter.correction.Goals.{After-difference}
 
-pub returns-in_default : goal.returns-in_default
-returns-in_default c = lamp_refused c.args.self (subst (λ (r : Resolved). Resolves r c.args.self.lamp) c.in_default.is c.resolved-lamp.ensures)
+-- a figure that is resolved to none is the refusal
+abbrev as_verdict : Result Float Refusal → Verdict ℕ
+as_verdict (Ok x) = accepted 0
+as_verdict (Err r) = refused (number_by r.reason) r.place
 
-pub returns-in_default-dark : goal.returns-in_default-dark
-returns-in_default-dark c =
-    let m = c.args.self in
-    let lamp = subst (λ (r : Resolved). Resolves r m.lamp) c.in-Mean.is c.resolved-lamp.ensures in
-    let dark = subst (λ (r : Resolved). Resolves r m.dark) c.in_default-dark.is c.resolved-dark.ensures in
-    dark_refused m lamp.0 dark
+none_refused : (o : Option Float) (r : Refusal) (f : Figure) → ◌≡◌ {A = Result Float Refusal} (Err r) (ok_or o (record { reason = Reported; place = 0 })) → Resolves o f →
+    (◌≡◌ {A = Verdict ℕ} (refused (number_by r.reason) r.place) (refused refusal_figure 0)) × (bad_figure f ≡ true)
+none_refused None r f e h = (ap as_verdict e, h)
+none_refused (Some x) r f e h = clash (sym (ap as_verdict e))
 
--- where both means are known: the figures, what they are resolved to, and the difference
+pub returns-in_err-ok_or : goal.returns-in_err-ok_or
+returns-in_err-ok_or c =
+    let p = err_from_is_err_and c.from_residual.result c.from_residual.ensures.1 in
+    let r = none_refused _ _ _ c.in_err-ok_or.ensures.value c.resolved.ensures in
+    rw (p.1, p.2) (r.0 ∙ lamp_refused c.args.self r.1)
+
+-- a figure that is resolved to its mean
+resolved : (o : Option Float) (x : Float) (f : Figure) → o ≡ Some x → Resolves o f → Resolves (Some x) f
+resolved o x f e h = subst (λ (r : Option Float). Resolves r f) e h
+
+pub returns-in_err-ok_or-2 : goal.returns-in_err-ok_or-2
+returns-in_err-ok_or-2 c =
+    let p = err_from_is_err_and c.from_residual-in_err-ok_or-2.result c.from_residual-in_err-ok_or-2.ensures.1 in
+    let lamp = resolved _ _ _ c.in_ok-ok_or.ensures.ok_part c.resolved.ensures in
+    let r = none_refused _ _ _ c.in_err-ok_or-2.ensures.value c.resolved-2.ensures in
+    rw (p.1, p.2) (r.0 ∙ dark_refused c.args.self lamp.0 r.1)
+
+-- both means
 module _ (c : After-difference) where
-  abbrev meter-of : Meter
-  meter-of = c.args.self
+  lamp_is : Resolves (Some c.in_ok-ok_or.field-0) c.args.self.lamp
+  lamp_is = resolved _ _ _ c.in_ok-ok_or.ensures.ok_part c.resolved.ensures
 
-  lamp_is : Resolves (Mean c.in-Mean.l) meter-of.lamp
-  lamp_is = subst (λ (r : Resolved). Resolves r meter-of.lamp) c.in-Mean.is c.resolved-lamp.ensures
+  dark_is : Resolves (Some c.in_ok-ok_or-2.field-0) c.args.self.dark
+  dark_is = resolved _ _ _ c.in_ok-ok_or-2.ensures.ok_part c.resolved-2.ensures
 
-  dark_is : Resolves (Mean c.in-Mean-dark.d) meter-of.dark
-  dark_is = subst (λ (r : Resolved). Resolves r meter-of.dark) c.in-Mean-dark.is c.resolved-dark.ensures
-
-  difference_is : IsEighths c.difference.result (difference_of meter-of)
-  difference_is = c.difference.ensures (eighths_of meter-of.lamp) (eighths_of meter-of.dark) lamp_is.1 dark_is.1
-
--- and the level
-module _ (c : After-rounded) where
-  level_is : c.rounded.result ≡ correction_of (meter-of c.before)
-  level_is = c.rounded.ensures (difference_of (meter-of c.before)) (difference_is c.before)
-
-  level_small : mag c.rounded.result ≤ 8192
-  level_small = rw level_is (rounded_small (difference_of (meter-of c.before)) (difference_is c.before).small)
-
-  fits : SFits w32 c.rounded.result
-  fits = record { sfits = omega (arith, level_small) }
-
-pub rounded-requires : goal.rounded-requires
-rounded-requires c = record { count = difference_of (meter-of c); counted = difference_is c }
-
-pub word_of-requires : goal.word_of-requires
-word_of-requires c = rw (to_z-of_z w32 c.rounded.result (fits c)) (omega (arith, level_small c))
+  difference_is : IsEighths c.difference.result (difference_of c.args.self)
+  difference_is = c.difference.ensures (eighths_of c.args.self.lamp) (eighths_of c.args.self.dark) lamp_is.1 dark_is.1
 
 pub returns : goal.returns
 returns c =
+    let m = c.args.self in
     let d = (goal.at.returns c).After-difference in
-    let r = (goal.at.returns c).After-rounded in
-    rw (c.word_of.ensures, to_z-of_z w32 c.rounded.result (fits r), level_is r) (both_accepted (meter-of d) (lamp_is d).0 (dark_is d).0)
+    let level : c.rounded.result ≡ correction_of m = c.rounded.ensures (difference_of m) (difference_is d) in
+    rw (c.word_of.ensures, to_z-of_z w16 c.rounded.result (record { sfits = c.rounded.type_inv }), level) (both_accepted m (lamp_is d).0 (dark_is d).0)

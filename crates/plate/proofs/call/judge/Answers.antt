@@ -1,25 +1,26 @@
--- `judge` runs checks 1 to 8 in the table's order: each return rewrites the verdict by the tests that led to it.
+-- `judge` runs checks 1 to 8 in the table's order: the first that refuses decides.
 use Prim.Native.Nat.{◌+◌, ◌*◌, ◌≤◌}
-use mathlib.Core.Path.{◌≡◌, sym, ap, ◌∙◌}
+use mathlib.Core.Path.{◌≡◌, sym, ◌∙◌}
 use mathlib.Core.Bool.{false}
-use mathlib.Core.List.{◌∷◌}
+use mathlib.Core.List.{[], ◌∷◌}
 use native.Mathlib.Nat.{mul-le-mul}
 use native.Mathlib.Omega.{arith}
-use borrow.Author.Tests.{eq-eqb, ne_eqb, lt-ltb, le-ltb}
+use Rattle.std.proofs.lemmas.Result.{err_from_is_err_and}
 use Rattle.plate.specs.Refusals.{judged, Clear, bad_size, size_check, setting_checks}
-use Rattle.plate.specs.Answers.{made, call_verdict}
+use Rattle.plate.specs.Answers.{call_verdict}
 use Rattle.plate.proofs.Sizes.{good_size}
+use Rattle.plate.proofs.Verdicts.{passed_first, check_passes, check_refuses}
 use Rattle.plate.proofs.Calls.{buffers, setting_decides, buffers_decide, setting_clear, few_gaps}
 use Rattle.plate.proofs.call.judge.Goals as goal
-use Rattle.plate.proofs.call.judge.Goals.{Else-bad_size, In_default}
+use Rattle.plate.proofs.call.judge.Goals.{In_ok-refuse_if, In_ok-checked}
 
 -- the size is good, and then the setting
-good : (c : Else-bad_size) → bad_size c.args.width c.args.height ≡ false
-good c = sym c.bad_size.ensures ∙ c.if-bad_size.false
+good : (c : In_ok-refuse_if) → bad_size c.args.width c.args.height ≡ false
+good c = sym c.bad_size.ensures ∙ check_passes _ c.in_ok-refuse_if.ensures
 
-module _ (c : In_default) where
+module _ (c : In_ok-checked) where
   clear : let a = c.args in Clear (size_check a.width a.height ∷ setting_checks a.setting)
-  clear = (good c.before.before, setting_clear _ _ (sym (ap made c.in_default.is) ∙ c.checked-made.ensures))
+  clear = (good (goal.at.In_ok-checked c).In_ok-refuse_if, setting_clear _ _ c.in_ok-checked.ensures)
 
   decides : let a = c.args in call_verdict a.width a.height a.setting a.lent ≡ judged (buffers a.width a.height a.setting a.lent) tt
   decides = buffers_decide _ _ _ _ clear
@@ -27,44 +28,47 @@ module _ (c : In_default) where
   few : c.args.setting.gaps ≤ 8
   few = few_gaps _ clear.1
 
-pub returns-then-bad_size : goal.returns-then-bad_size
-unfolding call_verdict judged
-returns-then-bad_size c = simp (sym c.bad_size.ensures ∙ c.if-bad_size.true)
+pub returns-in_err-refuse_if : goal.returns-in_err-refuse_if
+unfolding call_verdict
+returns-in_err-refuse_if c =
+    let p = err_from_is_err_and c.from_residual.result c.from_residual.ensures.1 in
+    rw (p.1, p.2) (check_refuses _ [] _ _ tt (rw c.bad_size.ensures at c.in_err-refuse_if.ensures))
 
-pub returns-in-Refused : goal.returns-in-Refused
-returns-in-Refused c =
-    setting_decides _ _ _ _ (good (goal.at.returns-in-Refused c).Else-bad_size) (sym (ap made c.in-Refused.is) ∙ c.checked-made.ensures)
+pub returns-in_err-checked : goal.returns-in_err-checked
+returns-in_err-checked c =
+    let p = err_from_is_err_and c.from_residual-in_err-checked.result c.from_residual-in_err-checked.ensures.1 in
+    rw (p.1, p.2) (setting_decides _ _ _ _ (good (goal.at.returns-in_err-checked c).In_ok-refuse_if) c.in_err-checked.ensures)
 
 pub overflow_mul-pixels : goal.overflow_mul-pixels
 overflow_mul-pixels c = omega (arith, (good_size _ _ (clear c).0).few)
 
 pub overflow_add-at_least : goal.overflow_add-at_least
-overflow_add-at_least c = omega (arith, few (goal.at.overflow_add-at_least c).In_default)
+overflow_add-at_least c = omega (arith, few (goal.at.overflow_add-at_least c).In_ok-checked)
 
 pub overflow_mul-at_least : goal.overflow_mul-at_least
-overflow_mul-at_least c = omega (arith, few (goal.at.overflow_mul-at_least c).In_default)
+overflow_mul-at_least c = omega (arith, few (goal.at.overflow_mul-at_least c).In_ok-checked)
 
 pub overflow_mul-at_least-2 : goal.overflow_mul-at_least-2
 overflow_mul-at_least-2 c =
     let a = c.args in
-    let k = few (goal.at.overflow_mul-at_least-2 c).In_default in
-    omega (arith, mul-le-mul {n₁ = 4 * (a.setting.gaps + 1)} {m₁ = a.width * a.height} {n₂ = 36} {m₂ = 65536} (omega arith) (good_size _ _ (clear (goal.at.overflow_mul-at_least-2 c).In_default).0).few)
+    let k = few (goal.at.overflow_mul-at_least-2 c).In_ok-checked in
+    omega (arith, mul-le-mul {n₁ = 4 * (a.setting.gaps + 1)} {m₁ = a.width * a.height} {n₂ = 36} {m₂ = 65536} (omega arith) (good_size _ _ (clear (goal.at.overflow_mul-at_least-2 c).In_ok-checked).0).few)
 
-pub returns-then-lent-pixels : goal.returns-then-lent-pixels
-unfolding judged
-returns-then-lent-pixels c = simp (decides (goal.at.returns-then-lent-pixels c).In_default, ne_eqb _ _ c.if-lent-pixels.true)
+pub returns-in_err-refuse_if-2 : goal.returns-in_err-refuse_if-2
+returns-in_err-refuse_if-2 c =
+    let p = err_from_is_err_and c.from_residual-in_err-refuse_if-2.result c.from_residual-in_err-refuse_if-2.ensures.1 in
+    rw (p.1, p.2, decides (goal.at.returns-in_err-refuse_if-2 c).In_ok-checked) (check_refuses _ [] _ _ tt c.in_err-refuse_if-2.ensures)
 
-pub returns-then-lent-exactly : goal.returns-then-lent-exactly
-unfolding judged
-returns-then-lent-exactly c =
-    simp (decides (goal.at.returns-then-lent-exactly c).In_default, eq-eqb _ _ c.if-lent-pixels.false, ← c.wanted-exactly.ensures, ne_eqb _ _ c.if-lent-exactly.true)
-
-pub returns-then-lent-at_least : goal.returns-then-lent-at_least
-unfolding judged
-returns-then-lent-at_least c =
-    simp (decides (goal.at.returns-then-lent-at_least c).In_default, eq-eqb _ _ c.if-lent-pixels.false, ← c.wanted-exactly.ensures, eq-eqb _ _ c.if-lent-exactly.false, lt-ltb _ _ c.if-lent-at_least.true)
+pub returns-in_err-refuse_if-3 : goal.returns-in_err-refuse_if-3
+returns-in_err-refuse_if-3 c =
+    let p = err_from_is_err_and c.from_residual-in_err-refuse_if-3.result c.from_residual-in_err-refuse_if-3.ensures.1 in
+    rw (p.1, p.2, decides (goal.at.returns-in_err-refuse_if-3 c).In_ok-checked)
+    (check_refuses _ (_ ∷ []) _ _ (check_passes _ c.in_ok-refuse_if-2.ensures, tt) (rw c.wanted-exactly.ensures at c.in_err-refuse_if-3.ensures))
 
 pub returns : goal.returns
-unfolding judged
 returns c =
-    simp (decides (goal.at.returns c).In_default, eq-eqb _ _ c.if-lent-pixels.false, ← c.wanted-exactly.ensures, eq-eqb _ _ c.if-lent-exactly.false, le-ltb _ _ c.if-lent-at_least.false)
+    c.refuse_if-4.ensures
+    ∙ sym (
+    decides (goal.at.returns c).In_ok-checked
+    ∙ passed_first tt (_ ∷ _ ∷ []) _ (check_passes _ c.in_ok-refuse_if-2.ensures, (check_passes _ (rw c.wanted-exactly.ensures at c.in_ok-refuse_if-3.ensures), tt))
+    )

@@ -1,21 +1,29 @@
--- `signed_correction` is the definition's case split; word − 65536 is formed in 32 bits, where it fits.
+-- `signed_correction` is the library's reading of a word in two's complement, which is that of the definition.
+use Prim.Native.Nat.{ℕ, ◌<◌}
+use mathlib.Core.Path.{◌≡◌, ap, ◌∙◌}
+use mathlib.Core.Logic.{⊎_elim}
 use native.Mathlib.Omega.{arith}
+use lib.IntN.{negsuc}
 use borrow.Author.Tests.{lt-ltb, le-ltb}
-use mir.Syntax.{w32}
-use mir.ValLaws.{to_z-of_z, to_z_pos}
-use Rattle.basics.proofs.Integers.{mag-sub}
+use mir.Syntax.{w16, w32}
+use mir.Val.{to_z}
+use mir.ValLaws.{to_z-of_z}
+use Rattle.basics.proofs.Numbers.{le_or_lt}
 use Rattle.plate.specs.Levels.{signed}
 use Rattle.plate.proofs.level.signed_correction.Goals as goal
 
-pub overflow_sub-result : goal.overflow_sub-result
+word_read : (word : ℕ) → word < 65536 → to_z w16 word ≡ signed word
 unfolding signed
-overflow_sub-result c = rw (to_z_pos w32 c.args.word (omega arith)) (record { sfits = omega (arith, mag-sub c.args.word 65536) })
+word_read word f =
+    ⊎_elim
+    (λ h. rw (le-ltb word 32768 h, lt-ltb word 65536 f) (ap negsuc (omega arith)))
+    (λ h. rw (lt-ltb word 32768 h))
+    (le_or_lt 32768 word)
 
-pub returns-then-word-lt32768 : goal.returns-then-word-lt32768
-unfolding signed
-returns-then-word-lt32768 c = rw (to_z_pos w32 c.args.word (omega arith), lt-ltb _ _ c.if-word-lt32768.true)
-
-pub returns-else-word-lt32768 : goal.returns-else-word-lt32768
-unfolding signed
-returns-else-word-lt32768 c =
-    rw (to_z_pos w32 c.args.word (omega arith), le-ltb _ _ c.if-word-lt32768.false) (to_z-of_z w32 _ (record { sfits = omega (arith, mag-sub c.args.word 65536) }))
+pub returns : goal.returns
+returns c =
+    to_z-of_z w32 _ (record { sfits = c.from.type_inv })
+    ∙ c.from.ensures
+    ∙ to_z-of_z w16 _ (record { sfits = c.cast_signed.type_inv })
+    ∙ c.cast_signed.ensures
+    ∙ word_read c.args.word (omega arith)

@@ -1,12 +1,8 @@
-use Prim.Native.Nat.{ℕ, ◌+◌, ◌-◌, ◌≤◌}
-use mathlib.Core.Path.{◌≡◌}
-use lib.ListN.{length, get_or}
+use Prim.Native.Nat.{ℕ, ◌+◌, ◌-◌}
+use lib.ListN.{get_or}
 use Rattle.eights.specs.Turned.{turned, numbers}
 use Rattle.states.specs.Runs.{Between}
 use Rattle.states.proofs.blends.put_eight.Given as goal
 
 abbrev pub invariant-loop-i : goal.invariant-loop-i
-invariant-loop-i l = (l.i ≤ 8) × (length l.s ≡ length l.initial.s) × Between (λ (k : ℕ). turned (get_or l.v (k - l.at) 0)) (numbers l.initial.s) (numbers l.s) l.at (l.at + l.i)
-
-abbrev pub decreases-loop-i : goal.decreases-loop-i
-decreases-loop-i l = 8 - l.i
+invariant-loop-i l = Between (λ (k : ℕ). turned (get_or l.v (k - l.at) 0)) (numbers l.initial.s) (numbers l.s) l.at (l.at + l.i)

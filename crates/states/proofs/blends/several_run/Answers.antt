@@ -11,17 +11,11 @@ loop-x-init c =
     let a = c.args in
     (omega arith, refl, columns_none a.planes a.pitch a.taps.t0 a.taps.t1 a.taps.t2 a.taps.to _ c.requires.blend_fits.taps (λ (y : ℕ). get_or a.keys.now (a.row.at + y) 0) _ a.row.lo)
 
-pub overflow_add-row : goal.overflow_add-row
-overflow_add-row c = omega (arith, c.requires.lo_le_hi, c.loop-x.invariant.0, c.loop-x-test.true)
-
 pub keys_at-key-requires : goal.keys_at-key-requires
 keys_at-key-requires c = omega (arith, c.requires.lo_le_hi, c.loop-x.invariant.0, c.loop-x-test.true)
 
-pub blend_several-requires : goal.blend_several-requires
-blend_several-requires c = fits_before c.args.planes _ _ _ _ _ _ _ _ _ c.requires.blend_fits (omega (arith, c.loop-x-test.true)) c.loop-x.invariant.1
-
-pub overflow_add-x : goal.overflow_add-x
-overflow_add-x c = omega (arith, c.requires.blend_fits.room, c.requires.blend_fits.narrow, c.loop-x-test.true)
+pub blend_eight-requires : goal.blend_eight-requires
+blend_eight-requires c = fits_before c.args.planes _ _ _ _ _ _ _ _ _ c.requires.blend_fits (omega (arith, c.loop-x-test.true)) c.loop-x.invariant.1
 
 pub loop-x-smaller : goal.loop-x-smaller
 loop-x-smaller c = omega (arith, c.loop-x-test.true)
@@ -33,13 +27,10 @@ loop-x-preserved c =
     let inside = c.loop-x-test.true in
     let key : ℕ → ℕ = λ y. get_or a.keys.now (a.row.at + y) 0 in (
       omega (arith, c.loop-x.invariant.0),
-      c.blend_several.auto.held ∙ c.loop-x.invariant.1,
+      c.blend_eight.auto.held ∙ c.loop-x.invariant.1,
       columns_more c.args.planes a.pitch t.t0 t.t1 t.t2 t.to _ c.requires.blend_fits.taps c.loop-x.x (omega (arith, c.requires.blend_fits.room, inside)) key _ _ _ a.row.lo c.loop-x.invariant.0 c.loop-x.invariant.2
-          (c.blend_several.ensures key (λ i m. c.keys_at-key.ensures.is i m ∙ ap (λ (k : ℕ). get_or a.keys.now k 0) (let e : a.row.at + c.loop-x.x + i ≡ a.row.at + (c.loop-x.x + i) = omega arith in e))),
+          (c.blend_eight.ensures key (λ i m. c.keys_at-key.ensures.is i m ∙ ap (λ (k : ℕ). get_or a.keys.now k 0) (let e : a.row.at + c.loop-x.x + i ≡ a.row.at + (c.loop-x.x + i) = omega arith in e))),
     )
-
-pub shape_of-held : goal.shape_of-held
-shape_of-held c = c.loop-x.invariant.1
 
 pub returns : goal.returns
 returns c = (omega (arith, c.loop-x-test.false), c.loop-x.invariant.2)

@@ -1,6 +1,4 @@
-use Prim.Native.Nat.{ℕ, ◌+◌, ◌-◌, ◌*◌, ◌≤◌}
-use mathlib.Core.Path.{◌≡◌}
-use lib.ListN.{length}
+use Prim.Native.Nat.{ℕ, ◌+◌}
 use Rattle.plans.specs.Plans.{pitch_of}
 use Rattle.eights.specs.Turned.{numbers}
 use Rattle.states.specs.Rows.{Planes}
@@ -8,10 +6,5 @@ use Rattle.states.proofs.PlaneLaws.{Either}
 use Rattle.states.proofs.rows.guard.Given as goal
 
 abbrev pub invariant-loop-j : goal.invariant-loop-j
-invariant-loop-j l = (l.j ≤ l.plan.planes)
-    × (l.at ≡ l.slot + l.j * pitch_of l.plan)
-    × Planes (Either l.row.lo (l.row.hi + 1)) (λ (i X : ℕ). 0) (numbers l.initial.held) (numbers l.held) l.slot (pitch_of l.plan) l.j
-    × (length l.held ≡ length l.initial.held)
-
-abbrev pub decreases-loop-j : goal.decreases-loop-j
-decreases-loop-j l = l.plan.planes - l.j
+invariant-loop-j l =
+    Planes (Either l.row.lo (l.row.hi + 1)) (λ (i X : ℕ). 0) (numbers l.initial.held) (numbers l.held) l.slot (pitch_of l.plan) l.j

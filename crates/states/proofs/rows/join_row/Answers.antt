@@ -1,75 +1,35 @@
--- `join_row` meets its contract: turn by turn, one plane more of either row is joined. The loop is left when the planes of the other row are used up.
-use mathlib.Core.Path.{refl}
+-- `join_row` meets its contract: turn by turn, one plane more of either row is joined.
+use Prim.Native.Nat.{ℕ, ◌+◌, ◌-◌, ◌*◌}
+use mathlib.Core.Path.{◌≡◌, subst}
 use native.Mathlib.Omega.{arith}
-use Rattle.plans.proofs.PlanSizes.{plane_fits}
-use Rattle.states.proofs.JoinLaws.{joining_none, joining_more, turn_left, turn_fits, some_across, row_joined}
+use Rattle.plans.specs.Plans.{pitch_of}
+use Rattle.plans.proofs.PlanSizes.{plane_fits, part_fits}
+use Rattle.eights.specs.Turned.{numbers}
+use Rattle.states.proofs.PartLaws.{part_folded}
+use Rattle.states.proofs.JoinLaws.{Folded, lower, folded_none, joined_more, row_joined}
 use Rattle.states.proofs.rows.join_row.Goals as goal
 
-pub overflow_sub-n : goal.overflow_sub-n
-overflow_sub-n c = omega arith
+pub loop-j-init : goal.loop-j-init
+loop-j-init c = folded_none _ _ _ _ _
 
-pub overflow_add-to : goal.overflow_add-to
-overflow_add-to c = omega (arith, c.requires, c.well_formed)
-
-pub overflow_add-h : goal.overflow_add-h
-overflow_add-h c = omega (arith, c.requires, c.well_formed, plane_fits c.args.plan 0 (omega (arith, c.requires)))
-
-pub overflow_add-h-2 : goal.overflow_add-h-2
-overflow_add-h-2 c = omega (arith, c.requires, c.well_formed, plane_fits c.args.plan 0 (omega (arith, c.requires)))
-
-pub overflow_mul-from : goal.overflow_mul-from
-overflow_mul-from c = omega (arith, c.requires, c.well_formed)
-
-pub overflow_add-from : goal.overflow_add-from
-overflow_add-from c = omega (arith, c.requires, c.well_formed)
-
-pub loop-from-init : goal.loop-from-init
-loop-from-init c = joining_none _ _ _ _ _ _ _ _ _ _ _ _ _ refl refl
-
-pub overflow_sub-from : goal.overflow_sub-from
-overflow_sub-from c = omega (arith, turn_fits _ _ _ _ _ _ _ _ _ _ _ _ _ _ c.loop-from.invariant c.loop-from-test.true)
-
-pub overflow_add-from-in-loop-from : goal.overflow_add-from-in-loop-from
-overflow_add-from-in-loop-from c =
-    let v = c.loop-from.invariant in
-    omega (arith, c.requires, c.well_formed, v.is_from, turn_fits _ _ _ _ _ _ _ _ _ _ _ _ _ _ v c.loop-from-test.true)
-
-pub fold_run-requires : goal.fold_run-requires
-fold_run-requires c =
-    let v = c.loop-from.invariant in
-    let t = turn_left _ _ _ _ _ _ _ _ _ _ _ _ _ _ v c.loop-from-test.true in
-    omega (
-      arith,
-      c.requires,
-      v.is_h,
-      v.is_from,
-      v.folded.len,
-      turn_fits _ _ _ _ _ _ _ _ _ _ _ _ _ _ v c.loop-from-test.true,
-      plane_fits c.args.plan v.turns (omega (arith, t)),
-    )
-
-pub overflow_add-h-in-loop-from : goal.overflow_add-h-in-loop-from
-overflow_add-h-in-loop-from c = omega (arith, c.requires)
-
-pub overflow_add-h-in-loop-from-2 : goal.overflow_add-h-in-loop-from-2
-overflow_add-h-in-loop-from-2 c =
-    let v = c.loop-from.invariant in
-    let t = turn_left _ _ _ _ _ _ _ _ _ _ _ _ _ _ v c.loop-from-test.true in
-    omega (arith, c.requires, c.well_formed, v.is_h, plane_fits c.args.plan v.turns (omega (arith, t)))
-
-pub loop-from-smaller : goal.loop-from-smaller
-loop-from-smaller c =
-    let v = c.loop-from.invariant in
-    let t = c.loop-from-test.true in
-    omega (arith, turn_fits _ _ _ _ _ _ _ _ _ _ _ _ _ _ v t, some_across _ _ _ _ _ _ _ _ _ _ _ _ _ _ v t)
-
-pub loop-from-preserved : goal.loop-from-preserved
-loop-from-preserved c =
-    joining_more _ _ _ _ _ _ _ _ _ _ _ _ _ _ c.loop-from.invariant c.loop-from-test.true _ _ _ _ c.fold_run.ensures refl
-    (omega (arith, c.requires.0.ordered)) refl
-
-pub shape_of-best : goal.shape_of-best
-shape_of-best c = c.loop-from.invariant.folded.len
+pub loop-j-preserved : goal.loop-j-preserved
+loop-j-preserved c =
+    let a = c.args in
+    let p = a.plan in
+    let j = c.loop-j.j in
+    let plane = plane_fits p j (omega arith) in
+    let part = part_fits p (p.planes - 1 - j) (omega arith) in
+    let to = a.row.at + a.row.lo in
+    let h = a.slot + j * pitch_of p + 1 + a.row.lo in
+    let w = a.at + (p.planes - 1 - j) * p.across + a.row.lo in
+    let n = a.row.hi - a.row.lo in
+    let run = part_folded a.held.now a.work.now c.loop-j.best c.fold_run.new.best to h w (to + n - to) (h + n - h) (w + n - w) (to + n) (omega arith) (omega (arith, c.requires, c.loop-j.auto.best))
+    (omega (arith, c.fold_run.auto.best)) (omega arith) (omega arith) (omega (arith, c.requires, plane)) (omega (arith, c.requires, part)) c.fold_run.ensures in
+    joined_more (numbers a.held.now) a.work.now a.slot a.at p.planes (pitch_of p) p.across _ _ _ a.row.at j a.row.lo a.row.hi to h w n c.loop-j.invariant run (omega arith) (omega (arith, c.requires.0.ordered)) (omega arith) (omega arith)
 
 pub returns : goal.returns
-returns c = row_joined _ _ _ _ _ _ _ _ _ _ _ _ _ _ c.loop-from.invariant c.loop-from-test.false c.requires.0.wide
+returns c =
+    let a = c.args in
+    let p = a.plan in
+    let all = subst (λ (k : ℕ). Folded (lower (numbers a.held.now) a.work.now a.slot a.at p.planes (pitch_of p) p.across) a.best.now c.loop-j.best a.row.at k a.row.lo a.row.hi) (let e : c.loop-j.j ≡ p.planes = omega arith in e) c.loop-j.invariant in
+    row_joined (numbers a.held.now) a.work.now a.slot a.at p.planes (pitch_of p) p.across _ _ _ _ _ all

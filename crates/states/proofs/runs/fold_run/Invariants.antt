@@ -1,12 +1,9 @@
-use Prim.Native.Nat.{ℕ, ◌+◌, ◌-◌, ◌≤◌, min, max}
+use Prim.Native.Nat.{ℕ, ◌<◌, ◌≤◌, min, max}
+use mathlib.Core.Path.{◌≡◌}
 use lib.ListN.{get_or}
-use Rattle.eights.specs.Turned.{numbers}
-use Rattle.states.specs.Runs.{Between}
+use Rattle.eights.specs.Turned.{turned}
 use Rattle.states.proofs.runs.fold_run.Given as goal
 
-abbrev pub invariant-loop-x : goal.invariant-loop-x
-invariant-loop-x l = (l.x ≤ l.n)
-    × Between (λ (k : ℕ). max (get_or l.initial.best k 0) (min (get_or (numbers l.held) (l.h + (k - l.b)) 0) (get_or l.work (l.w + (k - l.b)) 0))) l.initial.best l.best l.b (l.b + l.x)
-
-abbrev pub decreases-loop-x : goal.decreases-loop-x
-decreases-loop-x l = l.n - l.x
+abbrev pub invariant-loop-i : goal.invariant-loop-i
+invariant-loop-i l = ((k : ℕ) → k < l.i → get_or l.best k 0 ≡ max (get_or l.initial.best k 0) (min (turned (get_or l.held k 0)) (get_or l.work k 0)))
+    × ((k : ℕ) → l.i ≤ k → get_or l.best k 0 ≡ get_or l.initial.best k 0)

@@ -1,30 +1,28 @@
--- `judge_size` follows the two checks of the definition: each return is a law of a step.
+-- `judge_size` follows the two checks of the definition: the first that refuses decides.
 use native.Mathlib.Omega.{arith}
-use mathlib.Core.Path.{sym, ◌∙◌}
+use mathlib.Core.Path.{◌≡◌, sym, ◌∙◌}
+use mathlib.Core.Bool.{false}
+use mathlib.Core.List.{[], ◌∷◌}
+use Rattle.std.proofs.lemmas.Result.{err_from_is_err_and}
+use Rattle.plate.specs.Refusals.{bad_size, size_check}
 use Rattle.plate.proofs.Sizes.{good_size}
-use Rattle.survey_text.proofs.Steps.{handed_on}
-use Rattle.survey_text.proofs.Heads.{size_bad, size_large, size_good}
+use Rattle.plate.proofs.Verdicts.{accepted_clear, refused_first, passed_first}
 use Rattle.survey_text.proofs.reading.judge_size.Goals as goal
+use Rattle.survey_text.proofs.reading.judge_size.Goals.{In_ok-refuse_if}
 
-pub returns-then-c-gt0 : goal.returns-then-c-gt0
-returns-then-c-gt0 c = record { height_bound = omega arith; by_index = λ text. handed_on text c.args.c _ _ c.requires c.if-c-gt0.true }
+pub returns-in_err-refuse_if : goal.returns-in_err-refuse_if
+returns-in_err-refuse_if c =
+    let p = err_from_is_err_and c.from_residual.result c.from_residual.ensures.1 in
+    let e = rw c.bad_size.ensures at c.in_err-refuse_if.ensures in
+    rw (p.1, p.2) (sym (refused_first tt tt (size_check c.args.width c.args.height ∷ []) _ _ _ (sym e)))
 
-pub returns-then-bad_size : goal.returns-then-bad_size
-returns-then-bad_size c =
-    let bad = sym c.bad_size.ensures ∙ c.if-bad_size.true in
-    record { height_bound = omega arith; by_index = λ text. size_bad text c.args.c c.args.width c.args.height c.if-c-gt0.false bad }
+-- the size is good behind the first check
+good : (c : In_ok-refuse_if) → bad_size c.args.width c.args.height ≡ false
+good c = sym c.bad_size.ensures ∙ (accepted_clear _ tt tt (sym c.in_ok-refuse_if.ensures)).1.0
 
 pub overflow_mul-width : goal.overflow_mul-width
-overflow_mul-width c = record { fits = omega (arith, (good_size _ _ (sym c.bad_size.ensures ∙ c.if-bad_size.false)).few) }
-
-pub returns-then-width-height-gt-MAX_PLATE : goal.returns-then-width-height-gt-MAX_PLATE
-returns-then-width-height-gt-MAX_PLATE c =
-    let good = sym c.bad_size.ensures ∙ c.if-bad_size.false in
-    let large = c.if-width-height-gt-MAX_PLATE.true in
-    record { height_bound = omega arith; by_index = λ text. size_large text c.args.c c.args.width c.args.height c.if-c-gt0.false good large }
+overflow_mul-width c = record { fits = omega (arith, (good_size _ _ (good (goal.at.overflow_mul-width c).In_ok-refuse_if)).few) }
 
 pub returns : goal.returns
 returns c =
-    let good = sym c.bad_size.ensures ∙ c.if-bad_size.false in
-    let small = c.if-width-height-gt-MAX_PLATE.false in
-    record { height_bound = small; by_index = λ text. size_good text c.args.c c.args.width c.args.height c.requires c.if-c-gt0.false good small }
+    c.refuse_if-2.ensures ∙ sym (passed_first tt (size_check c.args.width c.args.height ∷ []) _ (good (goal.at.returns c).In_ok-refuse_if, tt))

@@ -1,58 +1,57 @@
 -- `read` goes through the stages of the definition; a size that was judged makes room in the buffers.
+use borrow.Author.Rules.{rules}
+use native.Mathlib.Nat.{mul_comm}
 use native.Mathlib.Omega.{arith}
-use mathlib.Core.Path.{◌≡◌, sym, ◌∙◌}
+use mathlib.Core.Path.{◌≡◌, refl, sym, ◌∙◌}
 use Prim.Native.Nat.{ℕ, ◌*◌, ◌≤◌}
 use lib.ListN.{length}
 use lib.Seq.{take_at, length-take-le}
-use Rattle.plate.specs.Refusals.{Verdict.accepted}
-use Rattle.survey_text.specs.Reading.{◌>>=◌, reading}
-use Rattle.survey_text.specs.Cursors.{stands}
-use Rattle.survey_text.proofs.Steps.{stands_refused, stands_here, stages}
+use Rattle.survey_text.specs.Reading.{max_plate, reading}
+use Rattle.survey_text.proofs.Heads.{size_accepted}
 use Rattle.survey_text.proofs.reading.read.Goals as goal
-use Rattle.survey_text.proofs.reading.read.Goals.{After-plate_lines-last, After-setting_lines-given}
+use Rattle.survey_text.proofs.reading.read.Goals.{In_ok-setting}
 
--- the size, and the room for it
-abbrev wide : After-setting_lines-given → ℕ
-wide g = g.size_lines-size.result.width
+-- the pixels, for which there is room
+abbrev pixels : In_ok-setting → ℕ
+pixels g = g.in_ok-width.width * g.in_ok-width.height
 
-abbrev high : After-setting_lines-given → ℕ
-high g = g.size_lines-size.result.height
+small : (g : In_ok-setting) → pixels g ≤ max_plate
+small g = (size_accepted _ _ g.in_ok-width.ensures).small
 
-readings_fit : (g : After-setting_lines-given) → wide g * high g ≤ length g.args.readings.now
-readings_fit g = omega (arith, g.size_lines-size.ensures.height_bound, g.requires.max_plate_in_bounds)
+readings_fit : (g : In_ok-setting) → pixels g ≤ length g.args.readings.now
+readings_fit g =
+    let many : length g.args.readings.now ≡ 512 = search rules in omega (arith, small g, many)
 
-words_fit : (g : After-setting_lines-given) → wide g * high g ≤ length g.args.words.now
-words_fit g = omega (arith, g.size_lines-size.ensures.height_bound, g.requires.max_plate_in_bounds_2)
+words_fit : (g : In_ok-setting) → pixels g ≤ length g.args.words.now
+words_fit g =
+    let many : length g.args.words.now ≡ 512 = search rules in omega (arith, small g, many)
 
--- the text is what the stages read
-whole : (p : After-plate_lines-last) → (stands p.args.s.now p.plate_lines-last.result >>= λ l. accepted (record {
-  width = p.size_lines-size.result.width;
-  height = p.size_lines-size.result.height;
-  setting = p.setting_lines-given.result.setting;
-  at = p.setting_lines-given.result.at;
-  readings = p.plate_lines-last.new.readings;
-  words = p.plate_lines-last.new.words;
-})) ≡ reading p.args.s.now
-whole p =
-    stages p.open-start.ensures.result_value p.edition_line-edition.ensures p.size_lines-size.ensures.step p.setting_lines-given.ensures
-    p.plate_lines-last.ensures
+pub overflow_mul-n : goal.overflow_mul-n
+overflow_mul-n c = record { fits = omega (arith, small (goal.at.overflow_mul-n c).In_ok-setting) }
+
+pub slice_bounds-plate_lines-end : goal.slice_bounds-plate_lines-end
+slice_bounds-plate_lines-end c = small (goal.at.slice_bounds-plate_lines-end c).In_ok-setting
 
 pub slice_bounds-plate_lines-end-2 : goal.slice_bounds-plate_lines-end-2
-slice_bounds-plate_lines-end-2 c = sym (length-take-le _ _ (readings_fit (goal.at.slice_bounds-plate_lines-end-2 c).After-setting_lines-given))
+slice_bounds-plate_lines-end-2 c = sym (length-take-le _ _ (readings_fit (goal.at.slice_bounds-plate_lines-end-2 c).In_ok-setting))
+
+pub slice_bounds-plate_lines-end-3 : goal.slice_bounds-plate_lines-end-3
+slice_bounds-plate_lines-end-3 c = small (goal.at.slice_bounds-plate_lines-end-3 c).In_ok-setting
 
 pub slice_bounds-plate_lines-end-4 : goal.slice_bounds-plate_lines-end-4
-slice_bounds-plate_lines-end-4 c = sym (length-take-le _ _ (words_fit (goal.at.slice_bounds-plate_lines-end-4 c).After-setting_lines-given))
+slice_bounds-plate_lines-end-4 c = sym (length-take-le _ _ (words_fit (goal.at.slice_bounds-plate_lines-end-4 c).In_ok-setting))
 
-pub returns-then-last-gt0 : goal.returns-then-last-gt0
-returns-then-last-gt0 c =
-    rw (stands_refused c.args.s.now c.plate_lines-last.result c.if-last-gt0.true) at (whole (goal.at.returns-then-last-gt0 c).After-plate_lines-last)
+pub plate_lines-requires : goal.plate_lines-requires
+plate_lines-requires c =
+    let g = (goal.at.plate_lines-requires c).In_ok-setting in
+    let m = mul_comm g.in_ok-width.width g.in_ok-width.height in
+    record { readings_len = length-take-le _ _ (readings_fit g) ∙ m; words_len = length-take-le _ _ (words_fit g) ∙ m }
 
 pub returns : goal.returns
+unfolding reading
 returns c =
-    let h = goal.at.returns c in
-    let g = h.After-setting_lines-given in
-    let l = c.plate_lines-last.new in
-    let k = c.plate_lines-last.auto in
-    let n = wide g * high g in
-    rw (take_at l.readings _ n (k.readings ∙ length-take-le n _ (readings_fit g)), take_at l.words _ n (k.words ∙ length-take-le n _ (words_fit g)))
-    (rw (stands_here c.args.s.now c.plate_lines-last.result c.if-last-gt0.false) at (whole h.After-plate_lines-last))
+    let g = (goal.at.returns c).In_ok-setting in
+    let l = c.plate_lines.new in
+    let k = c.plate_lines.auto in
+    rw (take_at l.readings _ (pixels g) (k.readings ∙ length-take-le _ _ (readings_fit g)), take_at l.words _ (pixels g) (k.words ∙ length-take-le _ _ (words_fit g)))
+    (rw (← c.in_ok-c.ensures, ← c.in_ok-edition.ensures, ← c.in_ok-width.ensures, ← c.in_ok-setting.ensures, ← c.in_ok-plate_lines.ensures) refl)

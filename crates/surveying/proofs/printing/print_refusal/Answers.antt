@@ -1,33 +1,37 @@
 -- `print_refusal` writes two lines in a row.
+use mathlib.Core.List.{List}
 use Prim.Native.Nat.{ℕ}
-use mathlib.Core.List.{List, ◌++◌}
 use Rattle.text_lines.specs.Bytes.{bytes}
+use Rattle.plate.specs.Answers.{number_by}
 use Rattle.survey_text.specs.Printing.{decimal, line, refusal_text}
-use Rattle.surveying.specs.Buffers.{Room}
+use Rattle.surveying.specs.Buffers.{Written}
 use Rattle.surveying.proofs.Written.{room_first, room_then, written_then}
 use Rattle.surveying.proofs.printing.print_refusal.Goals as goal
-use Rattle.surveying.proofs.printing.print_refusal.Goals.{Start}
+use Rattle.surveying.proofs.printing.print_refusal.Goals.{After-line, Start}
 
--- the two lines, and the room for them
+-- the two lines
 abbrev refused_line : (b : Start) → List ℕ
-refused_line b = line (bytes "refused=") (decimal b.args.number)
+refused_line b = line (bytes "refused=") (decimal (number_by b.args.refusal.reason))
 
 abbrev place_line : (b : Start) → List ℕ
-place_line b = line (bytes "place=") (decimal b.args.place)
+place_line b = line (bytes "place=") (decimal b.args.refusal.place)
 
-room : (b : Start) → Room (refused_line b ++ place_line b) b.args.at b.args.out.now
+pub line-requires : goal.line-requires
 unfolding refusal_text
-room b = b.requires
+line-requires c = let b = (goal.at.line-requires c).Start in rw c.number.ensures (room_first (refused_line b) (place_line b) c.requires)
 
-pub number_line-next-requires : goal.number_line-next-requires
-number_line-next-requires c =
-    room_first (refused_line (goal.at.number_line-next-requires c).Start) (place_line (goal.at.number_line-next-requires c).Start) (room (goal.at.number_line-next-requires c).Start)
+-- the first line was written
+numbered : (c : After-line) → Written (refused_line (goal.at.After-line c).Start) c.args.w.now c.line.new.self
+numbered c = rw c.number.ensures at c.line.ensures
 
-pub number_line-requires : goal.number_line-requires
-number_line-requires c =
-    room_then (refused_line (goal.at.number_line-requires c).Start) (place_line (goal.at.number_line-requires c).Start) (room (goal.at.number_line-requires c).Start) c.number_line-next.ensures
+pub line-requires-2 : goal.line-requires-2
+unfolding refusal_text
+line-requires-2 c =
+    let b = (goal.at.line-requires-2 c).Start in
+    room_then (refused_line b) (place_line b) c.requires (numbered (goal.at.line-requires-2 c).After-line)
 
 pub returns : goal.returns
 unfolding refusal_text
 returns c =
-    written_then (refused_line (goal.at.returns c).Start) (place_line (goal.at.returns c).Start) (room (goal.at.returns c).Start) c.number_line-next.ensures c.number_line.ensures
+    let b = (goal.at.returns c).Start in
+    written_then (refused_line b) (place_line b) c.requires (numbered (goal.at.returns c).After-line) c.line-2.ensures

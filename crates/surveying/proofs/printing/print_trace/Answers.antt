@@ -1,46 +1,49 @@
 -- `print_trace` writes the way, the level and the path: three writes in a row are one.
+use mathlib.Core.List.{List}
 use Prim.Native.Nat.{ℕ}
+use native.Mathlib.Omega.{arith}
 use mir.Syntax.{w16}
 use mir.ValLaws.{to_z-of_z}
-use mathlib.Core.List.{List, ◌++◌}
 use Rattle.text_lines.specs.Bytes.{bytes}
 use Rattle.survey_text.specs.Printing.{decimal, line, level_line, path_line, trace_text}
-use Rattle.surveying.specs.Buffers.{Room, Written}
+use Rattle.surveying.specs.Buffers.{Written}
 use Rattle.surveying.proofs.Written.{room_one, room_two, room_three, written_three}
 use Rattle.surveying.proofs.printing.print_trace.Goals as goal
-use Rattle.surveying.proofs.printing.print_trace.Goals.{After-level_line-next, Start}
+use Rattle.surveying.proofs.printing.print_trace.Goals.{After-line-2, Start}
 
--- the three parts, and the room for them
-abbrev way_line : (b : Start) → List ℕ
-way_line b = line (bytes "way=") (decimal b.args.way)
+-- the three parts
+abbrev way : (b : Start) → List ℕ
+way b = line (bytes "way=") (decimal b.args.trace.direction)
 
-abbrev level_line_lem : (b : Start) → List ℕ
-level_line_lem b = level_line b.args.level
+abbrev level : (b : Start) → List ℕ
+level b = level_line b.args.trace.level
 
-abbrev path_line_lem : (b : Start) → List ℕ
-path_line_lem b = path_line b.args.path.now
+abbrev path : (b : Start) → List ℕ
+path b = path_line b.args.path.now
 
-room : (b : Start) → Room (way_line b ++ level_line_lem b ++ path_line_lem b) b.args.at b.args.out.now
+pub line-requires : goal.line-requires
 unfolding trace_text
-room b = b.requires
+line-requires c = let b = (goal.at.line-requires c).Start in room_one (way b) (level b) (path b) c.requires
 
-pub number_line-next-requires : goal.number_line-next-requires
-number_line-next-requires c =
-    room_one (way_line (goal.at.number_line-next-requires c).Start) (level_line_lem (goal.at.number_line-next-requires c).Start) (path_line_lem (goal.at.number_line-next-requires c).Start) (room (goal.at.number_line-next-requires c).Start)
+pub line-requires-2 : goal.line-requires-2
+unfolding trace_text level_line
+line-requires-2 c =
+    let b = (goal.at.line-requires-2 c).Start in
+    rw (to_z-of_z w16 c.args.trace.level (record { sfits = omega arith })) (room_two (way b) (level b) (path b) c.requires c.line.ensures)
 
-pub level_line-next-requires : goal.level_line-next-requires
-level_line-next-requires c =
-    rw (to_z-of_z w16 c.args.level c.ranges.level) (room_two (way_line (goal.at.level_line-next-requires c).Start) (level_line_lem (goal.at.level_line-next-requires c).Start) (path_line_lem (goal.at.level_line-next-requires c).Start) (room (goal.at.level_line-next-requires c).Start) c.number_line-next.ensures)
+-- the level's line was written
+leveled : (c : After-line-2) → Written (level (goal.at.After-line-2 c).Start) c.line.new.self c.line-2.new.self
+unfolding level_line
+leveled c = rw (to_z-of_z w16 c.args.trace.level (record { sfits = omega arith })) at c.line-2.ensures
 
--- what `level_line` wrote
-level_written : (c : After-level_line-next) → Written (level_line_lem (goal.at.After-level_line-next c).Start) c.number_line-next.result c.number_line-next.new.out c.level_line-next.new.out c.level_line-next.result
-level_written c = rw (to_z-of_z w16 c.args.level c.ranges.level) at c.level_line-next.ensures
-
-pub path_line-requires : goal.path_line-requires
-path_line-requires c =
-    room_three (way_line (goal.at.path_line-requires c).Start) (level_line_lem (goal.at.path_line-requires c).Start) (path_line_lem (goal.at.path_line-requires c).Start) (room (goal.at.path_line-requires c).Start) c.number_line-next.ensures (level_written (goal.at.path_line-requires c).After-level_line-next)
+pub line-requires-3 : goal.line-requires-3
+unfolding trace_text path_line
+line-requires-3 c =
+    let b = (goal.at.line-requires-3 c).Start in
+    room_three (way b) (level b) (path b) c.requires c.line.ensures (leveled (goal.at.line-requires-3 c).After-line-2)
 
 pub returns : goal.returns
-unfolding trace_text
+unfolding trace_text path_line
 returns c =
-    written_three (way_line (goal.at.returns c).Start) (level_line_lem (goal.at.returns c).Start) (path_line_lem (goal.at.returns c).Start) (room (goal.at.returns c).Start) c.number_line-next.ensures (level_written (goal.at.returns c).After-level_line-next) c.path_line.ensures
+    let b = (goal.at.returns c).Start in
+    written_three (way b) (level b) (path b) c.requires c.line.ensures (leveled (goal.at.returns c).After-line-2) c.line-3.ensures

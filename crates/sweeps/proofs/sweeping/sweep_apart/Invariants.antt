@@ -1,4 +1,3 @@
-use Prim.Native.Nat.{◌-◌}
 use mathlib.Core.Path.{◌≡◌}
 use lib.ListN.{length}
 use Rattle.sweeps.proofs.SweepLaws.{SweptTo}
@@ -6,7 +5,4 @@ use Rattle.sweeps.proofs.sweeping.sweep_apart.Given as goal
 
 abbrev pub invariant-loop-e : goal.invariant-loop-e
 invariant-loop-e l = (length l.best ≡ length l.initial.best) × (length l.work ≡ length l.initial.work) × (length l.held ≡ length l.initial.held)
-    × SweptTo l.plan l.other l.states l.e l.initial.work l.initial.best l.work l.best l.base
-
-abbrev pub decreases-loop-e : goal.decreases-loop-e
-decreases-loop-e l = l.states - l.e
+    × SweptTo l.ours.plan l.theirs.plan l.states l.e l.initial.work l.initial.best l.work l.best l.base

@@ -4,26 +4,26 @@ use Rattle.sweeps.proofs.sweeping.sweep_held.Goals as goal
 
 pub sweep_linked-requires : goal.sweep_linked-requires
 sweep_linked-requires c =
-    record { plan_value = c.requires.plan_value; opposite = c.requires.opposite; plan_in_bounds = (c.requires.plan_in_bounds.1 c.if-plan.true, c.requires.plan_in_bounds.2); plan_in_bounds_2 = (omega (arith, c.requires.plan_bound), omega arith) }
+    record { opposite = c.requires.opposite; plan_in_bounds = (c.requires.plan_in_bounds.1 c.if-ours.true, c.requires.plan_in_bounds.2); plan_in_bounds_2 = (omega (arith, c.requires.plan_bound), omega arith) }
 
 pub sweep_apart-requires : goal.sweep_apart-requires
 sweep_apart-requires c =
-    record { plan_value = c.requires.plan_value; opposite = (c.requires.opposite, c.if-plan.false); plan_in_bounds = (c.requires.plan_in_bounds.0, c.requires.plan_in_bounds.2); plan_in_bounds_2 = (omega (arith, c.requires.plan_bound), omega arith) }
+    record { opposite = (c.requires.opposite, c.if-ours.false); plan_in_bounds = (c.requires.plan_in_bounds.0, c.requires.plan_in_bounds.2); plan_in_bounds_2 = (omega (arith, c.requires.plan_bound), omega arith) }
 
-pub shape_of-best-then-plan : goal.shape_of-best-then-plan
-shape_of-best-then-plan c = c.sweep_linked.auto.best
+pub shape_of-best-then-ours : goal.shape_of-best-then-ours
+shape_of-best-then-ours c = c.sweep_linked.auto.best
 
-pub shape_of-work-then-plan : goal.shape_of-work-then-plan
-shape_of-work-then-plan c = c.sweep_linked.auto.work
+pub shape_of-work-then-ours : goal.shape_of-work-then-ours
+shape_of-work-then-ours c = c.sweep_linked.auto.work
 
-pub returns-then-plan : goal.returns-then-plan
-returns-then-plan c = c.sweep_linked.ensures
+pub returns-then-ours : goal.returns-then-ours
+returns-then-ours c = c.sweep_linked.ensures
 
-pub shape_of-best-else-plan : goal.shape_of-best-else-plan
-shape_of-best-else-plan c = c.sweep_apart.auto.best
+pub shape_of-best-else-ours : goal.shape_of-best-else-ours
+shape_of-best-else-ours c = c.sweep_apart.auto.best
 
-pub shape_of-work-else-plan : goal.shape_of-work-else-plan
-shape_of-work-else-plan c = c.sweep_apart.auto.work
+pub shape_of-work-else-ours : goal.shape_of-work-else-ours
+shape_of-work-else-ours c = c.sweep_apart.auto.work
 
-pub returns-else-plan : goal.returns-else-plan
-returns-else-plan c = c.sweep_apart.ensures
+pub returns-else-ours : goal.returns-else-ours
+returns-else-ours c = c.sweep_apart.ensures

@@ -1,7 +1,7 @@
 -- `sweep_linked` meets its contract: at each turn the other side's next state is made in the place after the stack, this side's state that meets it
 -- is made of the last one of the stack, with those between, and the two are joined.
 use Prim.Native.Nat.{ℕ, ◌+◌, ◌-◌, ◌*◌, ◌≤◌}
-use mathlib.Core.Path.{◌≡◌, refl, sym, ◌∙◌, subst}
+use mathlib.Core.Path.{◌≡◌, refl, sym, ap, ◌∙◌, subst}
 use mathlib.Core.Logic.{inl}
 use native.Mathlib.Omega.{arith}
 use lib.ListN.{length}
@@ -12,42 +12,47 @@ use Rattle.stacks.specs.Doors.{fetches}
 use Rattle.plans.proofs.FormLaws.{well_formed_sound}
 use Rattle.states.proofs.DoorTests.{hold_if}
 use Rattle.stacks.proofs.DoorTests.{fetches_if, top_4}
-use Rattle.stacks.proofs.StackLaws.{row_below, state_below, states_below, half_one, half_fewer}
+use Rattle.stacks.proofs.StackLaws.{states_below, half_one, half_fewer}
 use Rattle.sweeps.proofs.SweepLaws.{some_size, StackAt, same_keys, same_size, same_half, full_last, swept_none, swept_all, stack_none, stack_fits_lem, top_fits, linked_turn}
 use Rattle.sweeps.proofs.sweeping.sweep_linked.Goals as goal
 use Rattle.sweeps.proofs.sweeping.sweep_linked.Goals.{After-at_once-spare, After-fetch-stack, After-states_fitting-places, After-top_of-from}
 
 -- ---- before the loop
-pub overflow_mul-base : goal.overflow_mul-base
-overflow_mul-base c = omega (arith, (well_formed_sound _ c.requires.plan_value.0).few_pixels)
-
-pub overflow_mul-size : goal.overflow_mul-size
-overflow_mul-size c = omega (arith, row_below c.args.plan (well_formed_sound _ c.requires.plan_value.0))
-
-pub overflow_mul-size-2 : goal.overflow_mul-size-2
-overflow_mul-size-2 c = omega (arith, state_below c.args.plan (well_formed_sound _ c.requires.plan_value.0))
-
 pub overflow_sub-work : goal.overflow_sub-work
-overflow_sub-work c = omega (arith, c.requires.plan_in_bounds.0)
+overflow_sub-work c = omega (arith, c.keys_size-base.ensures, c.requires.plan_in_bounds.0)
 
 pub states_fitting-places-requires : goal.states_fitting-places-requires
-states_fitting-places-requires c = (some_size c.args.plan (well_formed_sound _ c.requires.plan_value.0), omega (arith, c.requires.plan_in_bounds.0))
+states_fitting-places-requires c =
+    let size = c.state_size-size.ensures in (
+      omega (arith, size, some_size c.args.ours.plan (well_formed_sound _ c.args.ours.formed)),
+      omega (arith, size, c.keys_size-base.ensures, c.requires.plan_in_bounds.0),
+    )
 
-all_below : (n : After-states_fitting-places) → n.states_fitting-places.result * state_size n.args.plan ≤ 603979776
-all_below n =
-    states_below n.args.plan n.states_fitting-places.result (well_formed_sound _ n.requires.plan_value.0) n.states_fitting-places.ensures.1
+-- so many states find room behind the keys, and one more; no product wraps
+room : (n : After-states_fitting-places) → let p = n.args.ours.plan in
+    let all = n.states_fitting-places.result * state_size p in
+    (n.states_fitting-places.result * n.state_size-size.result ≡ all) × (all ≤ 603979776) × (keys_size p + all + state_size p ≤ length n.args.work.now)
+room n =
+    let f = n.args.ours in
+    let places = n.states_fitting-places in
+    let size = n.state_size-size.ensures.0 in
+    let fits = rw size at places.ensures.2 in (
+      ap (λ (q : ℕ). places.result * q) size,
+      states_below f.plan places.result (well_formed_sound _ f.formed) places.ensures.1,
+      omega (arith, fits, n.keys_size-base.ensures, n.requires.plan_in_bounds.0),
+    )
 
 pub overflow_mul-ends : goal.overflow_mul-ends
-overflow_mul-ends c = omega (arith, all_below c)
+overflow_mul-ends c = omega (arith, room c)
 
 pub overflow_add-ends : goal.overflow_add-ends
-overflow_add-ends c = omega (arith, all_below c, (well_formed_sound _ c.requires.plan_value.0).few_pixels)
+overflow_add-ends c = omega (arith, room c, c.keys_size-base.ensures)
 
 -- so many states as are made at once find room among the held rows
 held_once : (o : After-at_once-spare) → let a = o.args in
-    half_with a.plan (o.at_once-spare.result - 1) + half_with a.plan (o.at_once-spare.result - 1) ≤ length a.held.now
+    half_with a.ours.plan (o.at_once-spare.result - 1) + half_with a.ours.plan (o.at_once-spare.result - 1) ≤ length a.held.now
 held_once o =
-    rw (hold_if o.args.plan (length o.args.held.now) o.requires.plan_value.0 o.requires.plan_in_bounds_2.0 o.requires.plan_in_bounds_2.1) at o.at_once-spare.ensures.either
+    rw (hold_if o.args.ours.plan (length o.args.held.now) o.args.ours.formed o.requires.plan_in_bounds_2.0 o.requires.plan_in_bounds_2.1) at o.at_once-spare.ensures.either
 
 pub overflow_sub-spare : goal.overflow_sub-spare
 overflow_sub-spare c = omega (arith, c.at_once-spare.ensures.lower_bound.0)
@@ -59,27 +64,28 @@ loop-e-init c =
       refl,
       refl,
       refl,
-      record { is_base = refl; is_places = refl; deep = omega arith },
-      swept_none a.plan a.other a.states _ _ _,
-      stack_none a.plan a.states _ _ _ _,
+      record { is_base = c.keys_size-base.ensures.0; is_places = refl; deep = omega arith },
+      swept_none a.ours.plan a.theirs.plan a.states _ _ _,
+      stack_none a.ours.plan a.states _ _ _ _,
     )
 
 -- ---- the other side's state
-pub overflow_add-theirs : goal.overflow_add-theirs
-overflow_add-theirs c = omega (arith, c.requires.opposite.few, c.loop-e-test.true)
+pub overflow_add-next : goal.overflow_add-next
+overflow_add-next c = omega (arith, c.requires.opposite.few, c.loop-e-test.true)
 
 pub advance-requires : goal.advance-requires
 advance-requires c =
     let a = c.args in
     let i = c.loop-e.invariant in
-    let clear : keys_size a.other ≤ keys_size a.plan + c.states_fitting-places.result * state_size a.plan = omega (arith, same_keys a.plan a.other a.states c.requires.opposite) in
-    let fits : keys_size a.plan + c.states_fitting-places.result * state_size a.plan + state_size a.other ≤ length c.loop-e.work =
-    omega (arith, same_size a.plan a.other a.states c.requires.opposite, i.1, c.states_fitting-places.ensures.2, c.requires.plan_in_bounds.0) in record {
-      plan_value = c.requires.plan_value.1;
+    let base = c.keys_size-base.ensures in
+    let r = room (goal.at.advance-requires c).After-states_fitting-places in
+    let ends = c.keys_size-base.result + c.states_fitting-places.result * c.state_size-size.result in
+    let clear : keys_size a.theirs.plan ≤ ends = omega (arith, base, same_keys a.ours.plan a.theirs.plan a.states c.requires.opposite) in
+    let fits : ends + state_size a.theirs.plan ≤ length c.loop-e.work = omega (arith, base, r, same_size a.ours.plan a.theirs.plan a.states c.requires.opposite, i.1) in record {
       first_lt_past = (omega arith, omega (arith, c.requires.opposite.few, c.loop-e-test.true), clear, clear, fits, fits);
       fact = inl refl;
       states_in_bounds = (
-        half_one a.other c.loop-e.e _ (omega (arith, same_half a.plan a.other a.states c.requires.opposite, i.2, c.requires.plan_in_bounds_2.0)),
+        half_one a.theirs.plan c.loop-e.e _ (omega (arith, same_half a.ours.plan a.theirs.plan a.states c.requires.opposite, i.2, c.requires.plan_in_bounds_2.0)),
         omega (arith, i.2, c.requires.plan_in_bounds_2.1),
       );
     }
@@ -98,24 +104,24 @@ slice_bounds-fetch-end c = sym c.loop-e.invariant.3
 fetched : (f : After-fetch-stack) (spare : ℕ) (P Q : Type 0) →
     let a = f.args in
     let v = f.advance.new in
-    EitherBy (fetches a.plan f.loop-e.stack (a.states - 1 - f.loop-e.e) spare (length v.work) (length f.loop-e.marks) (length v.held)) P Q →
+    EitherBy (fetches a.ours.plan f.loop-e.stack (a.states - 1 - f.loop-e.e) spare (length v.work) (length f.loop-e.marks) (length v.held)) P Q →
     spare ≤ 1024 → P
 fetched f spare P Q e few =
     let a = f.args in
     let i = f.loop-e.invariant in
-    let fits : keys_size a.plan + f.states_fitting-places.result * state_size a.plan + state_size a.plan ≤ length f.advance.new.work =
-    omega (arith, f.advance.ensures.advanced.apart.len, i.1, f.states_fitting-places.ensures.2, f.requires.plan_in_bounds.0) in
-    let taken = fetches_if a.plan f.loop-e.stack (a.states - 1 - f.loop-e.e) spare (length f.advance.new.work) (length f.loop-e.marks) (length f.advance.new.held) f.requires.plan_value.0
+    let fits : keys_size a.ours.plan + f.states_fitting-places.result * state_size a.ours.plan + state_size a.ours.plan ≤ length f.advance.new.work =
+    omega (arith, f.advance.ensures.advanced.apart.len, i.1, room (goal.at.After-fetch-stack f).After-states_fitting-places) in
+    let taken = fetches_if a.ours.plan f.loop-e.stack (a.states - 1 - f.loop-e.e) spare (length f.advance.new.work) (length f.loop-e.marks) (length f.advance.new.held) f.args.ours.formed
     (omega (arith, f.advance.ensures.held_len_unchanged, i.2, f.requires.plan_in_bounds_2.0))
     (omega (arith, f.advance.ensures.held_len_unchanged, i.2, f.requires.plan_in_bounds_2.1))
-    (subst (λ (m : ℕ). StackFits a.plan f.loop-e.stack (length f.advance.new.work) m) (sym i.3)
-    (stack_fits_lem a.plan (well_formed_sound _ f.requires.plan_value.0) f.states_fitting-places.result (length f.advance.new.work) f.loop-e.stack f.states_fitting-places.ensures.0 f.states_fitting-places.ensures.1 fits i.4))
+    (subst (λ (m : ℕ). StackFits a.ours.plan f.loop-e.stack (length f.advance.new.work) m) (sym i.3)
+    (stack_fits_lem a.ours.plan (well_formed_sound _ f.args.ours.formed) f.states_fitting-places.result (length f.advance.new.work) f.loop-e.stack f.states_fitting-places.ensures.0 f.states_fitting-places.ensures.1 fits i.4))
     (omega (arith, f.requires.opposite.few)) few in
     rw taken at e
 
 -- the stack that came back
 stack_at : (f : After-fetch-stack) → let a = f.args in
-    StackAt a.plan f.states_fitting-places.result f.fetch-stack.result
+    StackAt a.ours.plan f.states_fitting-places.result f.fetch-stack.result
 stack_at f =
     let e = (fetched f _ _ _ f.fetch-stack.ensures.either (omega (arith, f.at_once-spare.ensures.lower_bound))).0 in
     let i = f.loop-e.invariant.4 in
@@ -123,20 +129,20 @@ stack_at f =
 
 -- where its last state begins
 top_is : (t : After-top_of-from) → let f = t.fetch-stack.result in
-    t.top_of-from.result ≡ f.base + (f.depth - 1) * state_size t.args.plan
+    t.top_of-from.result ≡ f.base + (f.depth - 1) * state_size t.args.ours.plan
 top_is t =
     let k = stack_at (goal.at.After-top_of-from t).After-fetch-stack in
     t.top_of-from.ensures
     ∙ sym
-    (top_4 _ _ t.requires.plan_value.0 (omega (arith, k.deep, t.states_fitting-places.ensures.1))
-    (omega (arith, k.is_base, (well_formed_sound _ t.requires.plan_value.0).few_pixels)))
+    (top_4 _ _ t.args.ours.formed (omega (arith, k.deep, t.states_fitting-places.ensures.1))
+    (omega (arith, k.is_base, (well_formed_sound _ t.args.ours.formed).few_pixels)))
 
 pub slice_bounds-last_mark-end : goal.slice_bounds-last_mark-end
 slice_bounds-last_mark-end c =
     sym ((fetched (goal.at.slice_bounds-last_mark-end c).After-fetch-stack _ _ _ c.fetch-stack.ensures.either (omega (arith, c.at_once-spare.ensures.lower_bound))).1.len ∙ c.loop-e.invariant.3)
 
-pub overflow_add-ours : goal.overflow_add-ours
-overflow_add-ours c = omega (arith, c.requires.opposite.few)
+pub overflow_add-meeting : goal.overflow_add-meeting
+overflow_add-meeting c = omega (arith, c.requires.opposite.few)
 
 -- ---- the two are joined
 pub advance_joined-requires : goal.advance_joined-requires
@@ -146,45 +152,42 @@ advance_joined-requires c =
     let g = fetched (goal.at.advance_joined-requires c).After-fetch-stack _ _ _ c.fetch-stack.ensures.either (omega (arith, c.at_once-spare.ensures.lower_bound)) in
     let m = c.last_mark.ensures in
     let taken = c.loop-e-test.true in
-    let fits : keys_size a.plan + c.states_fitting-places.result * state_size a.plan + state_size a.plan ≤ length c.fetch-stack.new.work =
-    omega (arith, g.1.apart.len, c.advance.ensures.advanced.apart.len, i.1, c.states_fitting-places.ensures.2, c.requires.plan_in_bounds.0) in
-    let top = top_fits a.plan (well_formed_sound _ c.requires.plan_value.0) c.states_fitting-places.result (length c.fetch-stack.new.work) c.fetch-stack.result c.states_fitting-places.ensures.0 c.states_fitting-places.ensures.1 fits
+    let r = room (goal.at.advance_joined-requires c).After-states_fitting-places in
+    let base = c.keys_size-base.ensures in
+    let fits : keys_size a.ours.plan + c.states_fitting-places.result * state_size a.ours.plan + state_size a.ours.plan ≤ length c.fetch-stack.new.work =
+    omega (arith, g.1.apart.len, c.advance.ensures.advanced.apart.len, i.1, r) in
+    let top = top_fits a.ours.plan (well_formed_sound _ c.args.ours.formed) c.states_fitting-places.result (length c.fetch-stack.new.work) c.fetch-stack.result c.states_fitting-places.ensures.0 c.states_fitting-places.ensures.1 fits
     (stack_at (goal.at.advance_joined-requires c).After-fetch-stack) c.top_of-from.result (top_is (goal.at.advance_joined-requires c).After-top_of-from) in record {
-      plan_value = c.requires.plan_value.0;
       first_lt_past = (
         omega (arith, m, g.1.not_past),
         omega (arith, c.requires.opposite.few),
-        full_last a.plan a.other a.states c.requires.opposite _ (omega (arith, taken)),
+        full_last a.ours.plan a.theirs.plan a.states c.requires.opposite _ (omega (arith, taken)),
         omega (arith, i.0, c.requires.plan_in_bounds.1),
       );
-      plan_bound = (top.0, top.1, omega arith, fits);
+      plan_bound = (top.0, top.1, omega (arith, base), omega (arith, base, r, fits));
       states_in_bounds = (
-        half_fewer a.plan _ (c.at_once-spare.result - 1) _ (omega (arith, m, g.1.near))
+        half_fewer a.ours.plan _ (c.at_once-spare.result - 1) _ (omega (arith, m, g.1.near))
             (omega (arith, held_once (goal.at.advance_joined-requires c).After-at_once-spare, c.fetch-stack.ensures.held_len_unchanged, c.advance.ensures.held_len_unchanged, i.2)),
         omega (arith, c.fetch-stack.ensures.held_len_unchanged, c.advance.ensures.held_len_unchanged, i.2, c.requires.plan_in_bounds_2.1),
       );
     }
-
-pub overflow_add-e : goal.overflow_add-e
-overflow_add-e c = omega (arith, c.requires.opposite.few, c.loop-e-test.true)
-
-pub loop-e-smaller : goal.loop-e-smaller
-loop-e-smaller c = omega (arith, c.loop-e-test.true)
 
 pub loop-e-preserved : goal.loop-e-preserved
 loop-e-preserved c =
     let a = c.args in
     let i = c.loop-e.invariant in
     let g = fetched (goal.at.loop-e-preserved c).After-fetch-stack _ _ _ c.fetch-stack.ensures.either (omega (arith, c.at_once-spare.ensures.lower_bound)) in
-    let turn = linked_turn a.plan a.other a.states (well_formed_sound _ c.requires.plan_value.0) (well_formed_sound _ c.requires.plan_value.1) c.requires.opposite c.loop-e.e (a.states - 1 - c.loop-e.e) c.states_fitting-places.result c.top_of-from.result
+    let base = c.keys_size-base.ensures.0 in
+    let size = c.state_size-size.ensures.0 in
+    let turn = linked_turn a.ours.plan a.theirs.plan a.states (well_formed_sound _ c.args.ours.formed) (well_formed_sound _ c.args.theirs.formed) c.requires.opposite c.loop-e.e (a.states - 1 - c.loop-e.e) c.states_fitting-places.result c.top_of-from.result
     c.last_mark.result _ c.loop-e.stack c.fetch-stack.result a.work.now a.best.now c.loop-e.work c.loop-e.best c.advance.new.work c.fetch-stack.new.work c.advance_joined.new.best c.loop-e.marks c.fetch-stack.new.marks
-    c.loop-e-test.true refl i.4 g.0.0 (top_is (goal.at.loop-e-preserved c).After-top_of-from) c.last_mark.ensures i.5 i.6 c.advance.ensures.advanced g.1 c.advance_joined.ensures.joined in (
+    c.loop-e-test.true refl i.4 g.0.0 (top_is (goal.at.loop-e-preserved c).After-top_of-from) c.last_mark.ensures (rw (base, size) at i.5) i.6 (rw (base, size) at c.advance.ensures.advanced) g.1 (rw (base, size) at c.advance_joined.ensures.joined) in (
       c.advance_joined.ensures.best_len_unchanged ∙ i.0,
       g.1.apart.len ∙ c.advance.ensures.advanced.apart.len ∙ i.1,
       c.advance_joined.ensures.held_len_unchanged ∙ c.fetch-stack.ensures.held_len_unchanged ∙ c.advance.ensures.held_len_unchanged ∙ i.2,
       g.1.len ∙ i.3,
       stack_at (goal.at.loop-e-preserved c).After-fetch-stack,
-      turn.0,
+      rw (base, size) turn.0,
       turn.1,
     )
 
@@ -200,4 +203,4 @@ shape_of-held c = c.loop-e.invariant.2
 pub returns : goal.returns
 returns c =
     let a = c.args in
-    swept_all a.plan a.other a.states c.loop-e.e _ a.work.now a.best.now c.loop-e.work c.loop-e.best (omega (arith, c.loop-e-test.false)) c.loop-e.invariant.5
+    swept_all a.ours.plan a.theirs.plan a.states c.loop-e.e _ a.work.now a.best.now c.loop-e.work c.loop-e.best (omega (arith, c.loop-e-test.false)) c.loop-e.invariant.5

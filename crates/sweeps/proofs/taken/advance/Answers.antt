@@ -9,7 +9,7 @@ returns c =
     record {
       made =
           record {
-            form = c.requires.plan_value;
+            form = c.args.followed.formed;
             some = c.requires.first_lt_past.0;
             near = c.requires.first_lt_past.1;
             rows = record { twice = c.requires.states_in_bounds.0; few = c.requires.states_in_bounds.1 };

@@ -1,16 +1,21 @@
 -- `edition_in` looks for one byte, and whether it is the digit 1 or 2: each return is a law of editions.
+use borrow.Author.Rules.{rules}
+use native.Mathlib.Omega.{arith}
 use mathlib.Core.Path.{sym}
 use Rattle.text_lines.proofs.Digits.{edition_sized, edition_one, edition_two, edition_none}
 use Rattle.text_lines.proofs.number.edition_in.Goals as goal
 
-pub returns-then-s-ne1 : goal.returns-then-s-ne1
-returns-then-s-ne1 c = sym (edition_sized _ c.if-s-ne1.true)
+pub returns-in_default : goal.returns-in_default
+returns-in_default c = sym (edition_sized _ (λ e. omega arith))
 
-pub returns-then-s-eq49 : goal.returns-then-s-eq49
-returns-then-s-eq49 c = sym (edition_one _ c.if-s-ne1.false c.if-s-eq49.true)
+pub returns-in_default-2 : goal.returns-in_default-2
+returns-in_default-2 c = sym (edition_sized _ (λ e. omega arith))
 
-pub returns-then-s-eq50 : goal.returns-then-s-eq50
-returns-then-s-eq50 c = sym (edition_two _ c.if-s-ne1.false c.if-s-eq49.false c.if-s-eq50.true)
+pub returns-in-49 : goal.returns-in-49
+returns-in-49 c = sym (edition_one _ (omega arith) c.in-49.is)
 
-pub returns : goal.returns
-returns c = sym (edition_none _ c.if-s-ne1.false c.if-s-eq49.false c.if-s-eq50.false)
+pub returns-in-50 : goal.returns-in-50
+returns-in-50 c = let e = c.in-50.is in sym (edition_two _ (omega arith) (λ n. omega arith) e)
+
+pub returns-in_default-digit : goal.returns-in_default-digit
+returns-in_default-digit c = sym (edition_none _ (omega arith) (search rules) (search rules))

@@ -1,10 +1,7 @@
-use Prim.Native.Nat.{◌-◌}
+use mathlib.Core.Path.{◌≡◌}
 use lib.ListN.{length}
-use Rattle.text_lines.proofs.Parts.{Listing}
+use Rattle.text_lines.proofs.Parts.{Filling}
 use Rattle.text_lines.proofs.number.list_in.Given as goal
 
-abbrev pub invariant-loop-k : goal.invariant-loop-k
-invariant-loop-k l = Listing l.s l.initial.out l.out l.from l.k
-
-abbrev pub decreases-loop-k : goal.decreases-loop-k
-decreases-loop-k l = length l.initial.out - l.k
+abbrev pub invariant-loop-place : goal.invariant-loop-place
+invariant-loop-place l = (length l.yielded ≡ l.place-index) × Filling l.s l.initial.out l.out l.place-index

@@ -1,22 +1,14 @@
--- `find` is the search for a byte: the invariant says how many bytes it has passed.
+-- `find` is std's search for a byte.
 use borrow.Author.Rules.{rules}
-use borrow.Author.Tests.{eq-eqb, ne_eqb}
-use native.Mathlib.Omega.{arith}
-use mathlib.Core.Path.{sym}
-use Rattle.basics.proofs.Lists.{passed_none, passed_miss, passed_hit, passed_end}
+use borrow.Author.Tests.{tests}
+use Rattle.std.proofs.lemmas.Iterator.{YieldsList-from_slice}
+use Rattle.std.proofs.lemmas.Iterator.Search.{position_from_yields_List}
 use Rattle.text_lines.specs.Format.{is}
+use Rattle.text_lines.proofs.Names.{first_position}
 use Rattle.text_lines.proofs.value.find.Goals as goal
 
-pub loop-i-init : goal.loop-i-init
-loop-i-init c = (search rules, passed_none (is c.args.b) _)
-
-pub returns-then-s-i : goal.returns-then-s-i
-unfolding is
-returns-then-s-i c = sym (passed_hit (is c.args.b) _ c.loop-i.i 0 (omega arith) (eq-eqb _ _ c.if-s-i.true) c.loop-i.invariant.1)
-
-pub loop-i-preserved : goal.loop-i-preserved
-unfolding is
-loop-i-preserved c = (omega arith, passed_miss (is c.args.b) _ c.loop-i.i 0 (omega arith) (ne_eqb _ _ c.if-s-i.false) c.loop-i.invariant.1)
-
 pub returns : goal.returns
-returns c = sym (passed_end (is c.args.b) _ c.loop-i.i (omega arith) c.loop-i.invariant.1)
+unfolding is
+returns c =
+    let p = position_from_yields_List (is c.args.b) _ _ _ c.position.ensures.ran (YieldsList-from_slice c.args.s.now cc) (λ x b q k. search (rules, tests)) in
+    rw (c.unwrap_or.ensures, p) (first_position (is c.args.b) c.args.s.now)

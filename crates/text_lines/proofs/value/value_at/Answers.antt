@@ -1,14 +1,15 @@
 -- `value_at` looks for the newline and compares the name in front of it: each return is a law of the next line, at what the two searches found.
 use native.Mathlib.Omega.{arith}
 use mathlib.Core.Path.{◌≡◌, sym, ap, ◌∙◌}
-use Prim.Native.Nat.{◌-◌}
-use lib.ListN.{length, drop, length-drop}
+use Prim.Native.Nat.{◌+◌, ◌-◌}
+use lib.ListN.{length, take, drop, length-drop}
 use lib.Seq.{take_all}
 use Rattle.basics.specs.Lists.{first_of}
 use Rattle.basics.proofs.Lists.{first_of_le}
 use Rattle.text_lines.specs.Bytes.{newline}
 use Rattle.text_lines.specs.Format.{is}
 use Rattle.text_lines.proofs.Lines.{no_line, other_name, the_value, name_fits, missing}
+use Rattle.text_lines.proofs.Names.{after_pointwise}
 use Rattle.text_lines.proofs.value.value_at.Goals as goal
 use Rattle.text_lines.proofs.value.value_at.Goals.{After-find}
 
@@ -29,16 +30,18 @@ returns-then-end-s c =
     let f = found (goal.at.returns-then-end-s c).After-find in
     record { result_value = sym (no_line c.args.s.now c.args.name.now c.args.at _ f c.if-end-s.true); inside = tt }
 
-pub returns-then-not-begins : goal.returns-then-not-begins
-returns-then-not-begins c =
-    let f = found (goal.at.returns-then-not-begins c).After-find in
-    let r = rw c.if-not-begins.true at c.begins.ensures in
+pub returns-then-not-starts_with : goal.returns-then-not-starts_with
+returns-then-not-starts_with c =
+    let f = found (goal.at.returns-then-not-starts_with c).After-find in
+    let line = take (c.args.at + c.find.result - c.args.at) (drop c.args.at c.args.s.now) in
+    let r = rw (← c.starts_with.ensures.value, c.if-not-starts_with.true) at (after_pointwise c.args.name.now line) in
     record { result_value = sym (other_name c.args.s.now c.args.name.now c.args.at _ f (omega arith) r); inside = tt }
 
 pub returns : goal.returns
 returns c =
     let f = found (goal.at.returns c).After-find in
-    let r = rw c.if-not-begins.false at c.begins.ensures in
+    let line = take (c.args.at + c.find.result - c.args.at) (drop c.args.at c.args.s.now) in
+    let r = rw (← c.starts_with.ensures.value, c.if-not-starts_with.false) at (after_pointwise c.args.name.now line) in
     let n = name_fits c.args.s.now c.args.name.now c.args.at _ f (omega arith) r in
     record {
       result_value = sym (the_value c.args.s.now c.args.name.now c.args.at _ f (omega arith) r);

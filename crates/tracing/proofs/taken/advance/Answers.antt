@@ -6,16 +6,13 @@ use Rattle.states.proofs.DoorTests.{advances_if}
 use Rattle.stacks.proofs.StackLaws.{half_one}
 use Rattle.tracing.proofs.taken.advance.Goals as goal
 
-pub overflow_add-this : goal.overflow_add-this
-overflow_add-this c = omega (arith, c.requires.e_bound.0)
-
 pub returns : goal.returns
 returns c =
     let taken = c.advance.ensures.value ∙ advances_if _ _ _ _ _ _
     record {
       made =
           record {
-            form = c.requires.plan_value;
+            form = c.args.followed.formed;
             some = omega arith;
             near = omega (arith, c.requires.e_bound.0);
             rows = record { twice = half_one _ _ _ c.requires.plan_in_bounds.0; few = c.requires.plan_in_bounds.1 };

@@ -6,5 +6,5 @@ pub returns : goal.returns
 returns c =
     let taken =
     end_if _ _ _ _ _
-    (record { read = record { form = c.requires.plan_value; behind = c.requires.steps_bound.3; within = c.requires.steps_bound.4 }; few = c.requires.steps_bound.2; near = c.requires.steps_bound.0; on_lines = c.requires.steps_bound.1 }) in
+    (record { read = record { form = c.args.followed.formed; behind = c.requires.3; within = c.requires.4 }; few = c.requires.2; near = c.requires.0; on_lines = c.requires.1 }) in
     rw taken at c.find_end.ensures

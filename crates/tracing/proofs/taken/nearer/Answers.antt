@@ -4,4 +4,4 @@ use Rattle.tracing.proofs.taken.nearer.Goals as goal
 
 pub returns : goal.returns
 returns c =
-    let taken = step_if _ _ _ _ (record { form = c.requires.plan_value; behind = c.requires.on_row.1; within = c.requires.on_row.2 }) c.requires.on_row.0 in rw taken at c.nearer.ensures
+    let taken = step_if _ _ _ _ (record { form = c.args.followed.formed; behind = c.requires.1; within = c.requires.2 }) c.requires.0 in rw taken at c.nearer.ensures

@@ -7,6 +7,6 @@ pub returns : goal.returns
 returns c =
     let taken =
     c.note_state.ensures.value
-    ∙ note_if _ _ _ _ _ _
-    (record { read = record { form = c.requires.plan_value; behind = c.requires.e_bound.3; within = c.requires.e_bound.2 }; few = c.requires.e_bound.0; near = c.requires.e_bound.1; room = c.requires.e_bound.4 }) in
+    ∙ note_if _ _ _ _ _
+    (record { read = record { form = c.args.followed.formed; behind = c.requires.3; within = c.requires.2 }; few = c.requires.0; near = c.requires.1; room = c.requires.4 }) in
     rw taken at c.note_state.ensures.either

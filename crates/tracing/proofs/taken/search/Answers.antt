@@ -11,7 +11,7 @@ returns c =
       gaps = c.requires.steps_bound.1;
       near = c.requires.steps_bound.3;
       standing = c.requires.steps_bound.2;
-      ends = c.requires.gaps_in_bounds;
-      goes = c.requires.gaps_in_bounds_2;
+      ends = c.requires.gaps_in_bounds.0;
+      goes = c.requires.gaps_in_bounds.1;
     }) in
     rw taken at c.search.ensures

@@ -4,4 +4,4 @@ use Rattle.stacks.proofs.DoorTests.{top_4}
 use Rattle.tracing.proofs.taken.top_of.Goals as goal
 
 pub returns : goal.returns
-returns c = let p = c.requires in c.top_of.ensures ∙ sym (top_4 _ _ p.0 p.1 p.2)
+returns c = let p = c.requires in c.top_of.ensures ∙ sym (top_4 _ _ c.args.followed.formed p.0 p.1)

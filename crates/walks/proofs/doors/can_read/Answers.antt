@@ -1,24 +1,25 @@
 -- `can_read` asks the questions of `can_read` in their order.
+use mathlib.Core.Path.{◌≡◌, ap, sym, ◌∙◌}
+use mathlib.Core.Bool.{true}
 use native.Mathlib.Omega.{arith}
-use mathlib.Core.Path.{sym, ◌∙◌}
-use Rattle.states.proofs.DoorTests.{keys_few, row_few, state_few}
+use Rattle.plans.specs.Plans.{keys_size, state_size}
+use Rattle.plans.specs.Forms.{well_formed}
+use Rattle.plans.specs.declared.plan.Plan.{Plan}
 use Rattle.walks.proofs.DoorTests.{read_1, read_2, read_3}
 use Rattle.walks.proofs.doors.can_read.Goals as goal
 
-pub returns-then-not-is_well_formed : goal.returns-then-not-is_well_formed
-returns-then-not-is_well_formed c = read_1 _ _ _ (sym c.is_well_formed.ensures ∙ c.if-not-is_well_formed.true)
+pub returns-in_default : goal.returns-in_default
+returns-in_default c = read_1 _ _ _ c.in_default.ensures
 
-pub overflow_mul-plan : goal.overflow_mul-plan
-overflow_mul-plan c = omega (arith, keys_few c.args.plan (sym c.is_well_formed.ensures ∙ c.if-not-is_well_formed.false))
-
-pub returns-then-plan-base : goal.returns-then-plan-base
-returns-then-plan-base c = read_2 _ _ _ (sym c.is_well_formed.ensures ∙ c.if-not-is_well_formed.false) c.if-plan-base.true
-
-pub overflow_mul-plan-2 : goal.overflow_mul-plan-2
-overflow_mul-plan-2 c = omega (arith, row_few c.args.plan (sym c.is_well_formed.ensures ∙ c.if-not-is_well_formed.false))
-
-pub overflow_mul-plan-3 : goal.overflow_mul-plan-3
-overflow_mul-plan-3 c = omega (arith, state_few c.args.plan (sym c.is_well_formed.ensures ∙ c.if-not-is_well_formed.false))
+pub returns-then-keys_size-base : goal.returns-then-keys_size-base
+returns-then-keys_size-base c =
+    let is = c.in-Some.ensures in
+    let size = ap keys_size is in
+    read_2 _ _ _ (sym (ap well_formed is) ∙ c.in-Some.followed.formed) (omega (arith, size, c.keys_size.ensures.0, c.if-keys_size-base.true))
 
 pub returns : goal.returns
-returns c = c.lies_in.ensures ∙ read_3 _ _ _ (sym c.is_well_formed.ensures ∙ c.if-not-is_well_formed.false) c.if-plan-base.false
+returns c =
+    let is = c.in-Some.ensures in
+    let keys = ap keys_size is in
+    rw (c.state_size.ensures.0, ap state_size is) at c.lies_in.ensures
+    ∙ read_3 _ _ _ (sym (ap well_formed is) ∙ c.in-Some.followed.formed) (omega (arith, keys, c.keys_size.ensures.0, c.if-keys_size-base.false))

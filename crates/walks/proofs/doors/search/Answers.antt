@@ -8,7 +8,7 @@ returns-then-not-can_search c = rw (sym c.can_search.ensures ∙ c.if-not-can_se
 
 pub search-requires : goal.search-requires
 search-requires c =
-    let a = search_facts _ _ _ _ (sym c.can_search.ensures ∙ c.if-not-can_search.false) in record { steps_bound = (a.few, a.gaps, a.standing, a.near); gaps_in_bounds = a.ends; gaps_in_bounds_2 = a.goes }
+    let a = search_facts _ _ _ _ (sym c.can_search.ensures ∙ c.if-not-can_search.false) in record { steps_bound = (a.few, a.gaps, a.standing, a.near); gaps_in_bounds = (a.ends, a.goes) }
 
 pub returns : goal.returns
 returns c = rw (sym c.can_search.ensures ∙ c.if-not-can_search.false) c.search.ensures

@@ -1,10 +1,9 @@
-use Prim.Native.Nat.{ℕ, ◌+◌, ◌-◌, ◌≤◌}
+use Prim.Native.Nat.{ℕ, min}
+use lib.ListN.{length, get_or}
+use Rattle.theory.specs.BestWalks.{ended}
 use Rattle.walks.specs.Noting.{Highest}
-use Rattle.walks.specs.Endings.{ended_at}
 use Rattle.walks.proofs.notes.highest_ended.Given as goal
 
-abbrev pub invariant-loop-x : goal.invariant-loop-x
-invariant-loop-x l = (l.x ≤ l.n) × Highest (λ (i : ℕ). ended_at l.work l.slack (l.keys + i) (l.at + i)) 0 l.x l.v l.best
-
-abbrev pub decreases-loop-x : goal.decreases-loop-x
-decreases-loop-x l = l.n - l.x
+abbrev pub invariant-loop-number : goal.invariant-loop-number
+invariant-loop-number l =
+    Highest (λ (i : ℕ). min (get_or l.numbers i 0) (ended l.slack (get_or l.keys i 0))) 0 (length l.yielded) l.v l.best

@@ -6,11 +6,5 @@ use Rattle.walks.proofs.step.gaps_after.Goals as goal
 pub returns-then-key-t : goal.returns-then-key-t
 returns-then-key-t c = omega (arith, under_high c.args.t c.args.key c.if-key-t.true)
 
-pub returns-then-left-eq0 : goal.returns-then-left-eq0
-returns-then-left-eq0 c = omega (arith, c.if-left-eq0.true)
-
-pub overflow_sub-result : goal.overflow_sub-result
-overflow_sub-result c = omega (arith, c.if-left-eq0.false)
-
 pub returns : goal.returns
-returns c = omega (arith, under_low c.args.t c.args.key c.if-key-t.false)
+returns c = omega (arith, c.saturating_sub.ensures, under_low c.args.t c.args.key c.if-key-t.false)
