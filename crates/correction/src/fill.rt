@@ -4,13 +4,14 @@ ghost use Rattle.basics.specs.Lists.{first_of};
 ghost use Rattle.plate.specs.Levels.{corrected, corrected_plate};
 ghost use Rattle.plate.specs.Refusals.{bad_reading, bad_correction};
 
-// One corrected level; within the bounds the sum has 16 bits.
+// One corrected level; within the bounds the sum has 16 bits. By hand, the cast that narrows: it is proved to fit,
+// where `try_from` would answer a Result.
 fn corrected_level(reading: u16, word: u16) -> i16
     requires reading_value { bad_reading reading ≡ false }
     requires word_value { bad_correction word ≡ false }
     ensures { result ≡ corrected reading word }
 {
-    (reading as i32 + plate::signed_correction(word)) as i16
+    (i32::from(reading) + plate::signed_correction(word)) as i16
 }
 
 // Every place of result from its reading and its word, all of which are good.

@@ -14,7 +14,8 @@ use std::{array, cmp};
 // The lowest number, turned.
 pub const NOTHING: u16 = 32768;
 
-// A number with its highest bit turned; turned again it is as it was.
+// A number with its highest bit turned; turned again it is as it was. By hand, in place of `a ^ NOTHING`: the
+// must-fail edit `middle_not_turned_down` is an edit of the test, so the test stays.
 pub fn turn(a: u16) -> u16
     ensures { (result ≡ turned a) × (turned result ≡ a) }
 {

@@ -1,13 +1,14 @@
 -- From the directions to the whole plate: what a direction adds, and what all of them do, or as many as it takes for every level to reach the pixel's
 -- own.
-use Prim.Native.Nat.{ℕ, suc, ◌+◌, ◌-◌, ◌*◌, ◌/◌, ◌%◌, ◌^◌, ◌≤◌, ◌<◌, max}
+use Prim.Native.Nat.{ℕ, suc, ◌+◌, ◌-◌, ◌*◌, ◌^◌, ◌≤◌, ◌<◌, max}
 use mathlib.Core.Path.{◌≡◌, refl, sym, ap, ◌∙◌}
-use mathlib.Core.Bool.{Bool, true, false, cond, true≢false}
+use mathlib.Core.Bool.{Bool, true, false, cond, true≢false, ◌&&◌}
 use mathlib.Core.List.{List, [], ◌∷◌, ◌++◌}
 use mathlib.Core.Logic.{inl, inr, ⊎_elim}
 use native.Mathlib.Numerals.{add-one}
 use native.Mathlib.Omega.{arith}
-use borrow.Author.Tests.{eq-eqb, ne_eqb}
+use borrow.Author.Tests.{lt-ltb}
+use lib.Dec.{ltb}
 use lib.ListN.{length, take}
 use lib.IntN.{ℤ}
 use Rattle.basics.specs.Cases.{EitherBy}
@@ -42,16 +43,16 @@ chosen_best W H s index plate old new e h =
 
 -- ---- a direction that adds nothing
 
-pub member_chosen : (s : Setting) (index : ℕ) → s.directions / 2 ^ index % 2 ≡ 1 → member s.directions (2 ^ index) ≡ true
-unfolding member
-member_chosen s index h = eq-eqb (s.directions / 2 ^ index % 2) 1 h
-
-pub not_chosen : (W H : ℕ) (s : Setting) (plate : List ℤ) (index : ℕ) (old : List ℤ) → (s.directions / 2 ^ index % 2 ≡ 1 → ⊥) →
+pub not_chosen : (W H : ℕ) (s : Setting) (plate : List ℤ) (index : ℕ) (old : List ℤ) → member s.directions (2 ^ index) ≡ false →
     Raised (best_if_chosen W H s plate (2 ^ index)) old old 0 (W * H)
-unfolding best_if_chosen member
+unfolding best_if_chosen
 not_chosen W H s plate index old out =
-    raised_to_nothing (best_if_chosen W H s plate (2 ^ index)) old 0 (W * H)
-    (λ x a b. rw (ne_eqb (s.directions / 2 ^ index % 2) 1 out))
+    raised_to_nothing (best_if_chosen W H s plate (2 ^ index)) old 0 (W * H) (λ x a b. rw out)
+
+-- the setting chooses the directions of its set, as far as the table goes
+pub chooses_member : (s : Setting) (index : ℕ) → index < 4 → (r : Bool) → r ≡ (ltb index 4 && member s.directions (2 ^ index)) →
+    member s.directions (2 ^ index) ≡ r
+chooses_member s index known r e = sym (rw (lt-ltb index 4 known) at e)
 
 module _ (W H : ℕ) (s : Setting) (plate : List ℤ) (index : ℕ) (known : index < 4) (short : span W H (2 ^ index) < s.length) where
   no_path : (x : ℕ) → x < W * H → best_in W H s plate (2 ^ index) x ≡ 0

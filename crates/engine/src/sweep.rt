@@ -38,7 +38,7 @@ impl<'a> Sieve<'a> {
         requires index_bound { index < 4 }
         ensures { Raised (best_if_chosen self.now.width self.now.height self.now.setting self.now.plate.now (2 ^ index)) res.old res.new 0 (self.now.width * self.now.height) }
     {
-        if (self.setting.directions >> index) % 2 != 1 {
+        if !self.setting.chooses(index) {
             return;
         }
         directions::open_direction(

@@ -1,5 +1,5 @@
 -- The usable directions by their index in the table, and that a path crosses a pixel exactly if there is one: refusal 12 by numbers alone.
-use Prim.Native.Nat.{ℕ, ◌*◌, ◌/◌, ◌%◌, ◌^◌, ◌≤◌, ◌<◌, min}
+use Prim.Native.Nat.{ℕ, ◌*◌, ◌%◌, ◌^◌, ◌≤◌, ◌<◌, min}
 use mathlib.Core.Path.{◌≡◌, refl, sym, ap, subst, ◌∙◌}
 use mathlib.Core.Bool.{Bool, true, false, true≢false, cond, ◌&&◌, ◌||◌}
 use mathlib.Core.List.{Memᴰ}
@@ -8,7 +8,7 @@ use native.Mathlib.Omega.{arith}
 use lib.Dec.{T, leb, ltb, leb→le}
 use lib.ListN.{length}
 use Rattle.std.specs.Prelude.{Option, Some, None, MatchOption}
-use borrow.Author.Tests.{eq-eqb, ne_eqb, lt-ltb, le-ltb, le-leb, ltb-true}
+use borrow.Author.Tests.{lt-ltb, le-leb, ltb-true}
 use Rattle.basics.proofs.Numbers.{below_four}
 use Rattle.basics.proofs.Tests.{true_T, T_true, and_both, true_or_false}
 use Rattle.basics.proofs.Lists.{keep_find, keep-keep, one_of_three}
@@ -39,25 +39,6 @@ unfolding table
 index_at bit (Memᴰ.head e) = (0, omega arith, e)
 index_at bit (Memᴰ.tail i) =
     one_of_three (λ (b : ℕ). (index : ℕ) × (index < 4) × (b ≡ 2 ^ index)) (1, omega arith, refl) (2, omega arith, refl) (3, omega arith, refl) i
-
--- ---- the test
-
-module _ (W H : ℕ) (s : Setting) (index : ℕ) where
-  pub not_listed : 4 ≤ index → false ≡ usable W H s index
-  unfolding usable
-  not_listed l = rw (le-ltb index 4 l) refl
-
-  module _ (l : index < 4) (b : ℕ) (is-bit : b ≡ bit_at index) where
-    same_bit : 2 ^ index ≡ b
-    same_bit = sym (is-bit ∙ bit_there index l)
-
-    pub not_chosen : (s.directions / b % 2 ≡ 1 → ⊥) → false ≡ usable W H s index
-    unfolding usable member
-    not_chosen n = rw (lt-ltb index 4 l, same_bit, ne_eqb (s.directions / b % 2) 1 n) refl
-
-    pub chosen_long : s.directions / b % 2 ≡ 1 → (longest : ℕ) → longest ≡ span_of W H index → leb s.length longest ≡ usable W H s index
-    unfolding usable member
-    chosen_long e longest is = rw (is, lt-ltb index 4 l, same_bit, eq-eqb (s.directions / b % 2) 1 e) refl
 
 -- ---- what it says
 

@@ -12,16 +12,11 @@ pub fn bit_of(index: usize) -> usize
 }
 
 // Whether the direction at this index is chosen and has paths of the setting's length.
+#[tactic(auto, unfolding(crate::specs::Usable::usable))]
 pub fn is_usable(width: usize, height: usize, setting: Setting, index: usize) -> bool
     ensures { result ≡ usable width height setting index }
 {
-    if index >= plate::DIRECTIONS {
-        return false;
-    }
-    if setting.directions / bit_of(index) % 2 != 1 {
-        return false;
-    }
-    setting.length <= plate::span_of(width, height, index)
+    setting.chooses(index) && setting.length <= plate::span_of(width, height, index)
 }
 
 // The index of the first usable direction; none where no direction is usable.

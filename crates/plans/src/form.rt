@@ -1,4 +1,6 @@
-// Which plans a sweep can follow: each door of the engine that takes a plan asks this first.
+// Which plans a sweep can follow: each door of the engine that takes a plan asks this first. The tests follow one
+// another: that a plan is in its limits and in its frame stands in three private contracts, as a type for each would
+// serve those three calls alone.
 ghost use Rattle.std.specs.Prelude.{◌≡◌, true};
 ghost use Rattle.plans.specs.Forms.{among, in_limits, in_frame, orders_of, origin_of, is_counted, is_shaped, step_on_lines, step_on_ranks, step_held, steps_held, well_formed};
 

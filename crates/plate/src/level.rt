@@ -1,4 +1,5 @@
-// The arithmetic of levels: each function is total, and none can wrap.
+// The arithmetic of levels: each function is total, and none can wrap. By hand in `key_of` and `level_of`, the
+// casts that narrow: each is proved to fit, where `try_from` would answer a Result.
 ghost use Rattle.std.specs.Prelude.{◌≡◌};
 ghost use Rattle.plate.specs.Levels.{signed, mirror, key, level};
 
@@ -20,12 +21,12 @@ pub fn mirrored(v: i16) -> i16
 pub fn key_of(v: i16) -> u16
     ensures { result ≡ key v }
 {
-    (v as i32 + 32768) as u16
+    (i32::from(v) + 32768) as u16
 }
 
 // The level with this key.
 pub fn level_of(k: u16) -> i16
     ensures { result ≡ level k }
 {
-    (k as i32 - 32768) as i16
+    (i32::from(k) - 32768) as i16
 }

@@ -1,10 +1,12 @@
 // The setting of a filter or a trace, with its limits: made of five numbers, or refused (2 to 5, 18). Its
 // fields are open, so every call that takes one checks it again.
-ghost use Rattle.std.specs.Prelude.{◌≡◌};
+ghost use Rattle.std.specs.Prelude.{◌≡◌, ltb, ◌&&◌, ◌^◌};
 ghost use Rattle.plate.specs.Refusals.{setting_verdict, bad_length, bad_gaps, bad_directions, bad_mode, bad_ends};
 ghost use Rattle.plate.specs.Answers.{made};
+ghost use Rattle.plate.specs.Directions.{member};
 
 use crate::refusal::{Reason, Refusal};
+use crate::steps;
 
 // A setting: the length of a path in pixels, the gaps allowed on it, the set of directions (the sum
 // of their bits; document 01: ways), the mode, 0 for opening and 1 for closing, and whether the two ends of
@@ -60,6 +62,13 @@ impl Setting {
             ends,
         };
         setting.checked()
+    }
+
+    // Is the direction with this index of the step table one of the set? No past the table.
+    pub fn chooses(self, index: usize) -> bool
+        ensures { result ≡ ltb index 4 && member self.directions (2 ^ index) }
+    {
+        index < steps::DIRECTIONS && (self.directions >> index) % 2 == 1
     }
 }
 

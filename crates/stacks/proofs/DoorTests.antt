@@ -1,10 +1,12 @@
 -- The tests of specs/Doors.antt: what a call that passes them has, and that a call with all of it passes. Said of any numbers, so that no term is
 -- large.
-use Prim.Native.Nat.{ℕ, ◌+◌, ◌-◌, ◌*◌, ◌≤◌, ◌<◌}
+use Prim.Native.Nat.{ℕ, ◌+◌, ◌-◌, ◌*◌, ◌/◌, ◌≤◌, ◌<◌, min}
 use mathlib.Core.Path.{◌≡◌, refl, sym, ◌∙◌}
 use mathlib.Core.Bool.{true, ◌&&◌}
 use lib.Dec.{leb, ltb}
-use borrow.Author.Tests.{lt-ltb, le-leb, ltb-true, leb-true}
+use native.Mathlib.Nat.{div-mul-le_self, le-div_iff_mul-le, le-min, min-le_left, min-le_right, mul-le-mul}
+use native.Mathlib.Omega.{arith}
+use borrow.Author.Tests.{lt-ltb, le-leb, ne_eqb, ltb-true, leb-true}
 use Rattle.plans.specs.Plans.{half_of, keys_size, state_size}
 use Rattle.plans.specs.Forms.{among, well_formed}
 use Rattle.plans.specs.declared.plan.Plan.{Plan}
@@ -12,7 +14,7 @@ use Rattle.plans.proofs.FormFacts.{both, among_from, among_high}
 use Rattle.states.specs.Doors.{can_hold}
 use Rattle.states.proofs.DoorTests.{hold_if}
 use Rattle.stacks.specs.Stacks.{StackFits}
-use Rattle.stacks.specs.Doors.{stack_fits, fetches, has_top, top_of}
+use Rattle.stacks.specs.Doors.{stack_fits, fetches, has_top, top_of, places_in}
 use Rattle.stacks.specs.declared.stack.Stack.{Stack}
 
 module _ (p : Plan) (s : Stack) (work marks : ℕ) where
@@ -73,3 +75,15 @@ module _ (p : Plan) (s : Stack) where
   pub top_4 : well_formed p ≡ true → s.depth ≤ 64 → s.base < 16777216 → s.base + (s.depth - 1) * state_size p ≡ top_of p s
   unfolding top_of has_top
   top_4 a b d = rw (a, le-leb s.depth 64 b, lt-ltb s.base 16777216 d) refl
+
+-- ---- its places
+
+-- where one state finds room, so many do
+pub places_facts : (room size : ℕ) → 1 ≤ size → size ≤ room →
+    (1 ≤ places_in room size) × (places_in room size ≤ 64) × (places_in room size * size ≤ room)
+unfolding places_in
+places_facts room size h l =
+    let some : 1 ≤ room / size = (le-div_iff_mul-le h).1 (omega (arith, l)) in
+    let all = mul-le-mul {n₁ = min (room / size) 64} {m₁ = size} {n₂ = room / size} {m₂ = size} (min-le_left (room / size) 64) (omega arith) in
+    rw (ne_eqb size 0 (λ e. omega (arith, h, e)))
+    (le-min some (omega arith), min-le_right (room / size) 64, omega (arith, all, div-mul-le_self room size))

@@ -1,6 +1,6 @@
 -- Which calls of the stack are taken: the plan can be followed, and what is lent has room. A call that is not taken changes nothing. These
 -- definitions serve contracts inside the engine only: no public contract cites them.
-use Rattle.std.specs.Prelude.{ℕ, ◌+◌, ◌-◌, ◌*◌, ◌/◌, min, Bool, cond, ◌&&◌, leb, ltb}
+use Rattle.std.specs.Prelude.{ℕ, ◌+◌, ◌-◌, ◌*◌, ◌/◌, min, Bool, cond, ◌&&◌, eqb, leb, ltb}
 use Rattle.plans.specs.Plans.{keys_size, state_size, block_of}
 use Rattle.plans.specs.Forms.{among, well_formed}
 use Rattle.plans.specs.declared.plan.Plan.{Plan}
@@ -34,3 +34,7 @@ linked_at_once p held = cond p.linked (min (held / 2 / block_of p - 1) 6) 1
 -- one where the plan cannot be followed with what is lent
 unfoldable pub at_once : Plan → ℕ → ℕ
 at_once p held = cond (can_hold p held) (linked_at_once p held) 1
+
+-- how many states of a size find room, up to the 64 that a stack has places for; none where they have no size
+unfoldable pub places_in : (room size : ℕ) → ℕ
+places_in room size = cond (eqb size 0) 0 (min (room / size) 64)

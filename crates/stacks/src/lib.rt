@@ -8,4 +8,4 @@ mod stack;
 mod taken;
 
 pub use doors::{at_once, fetch, top_of};
-pub use stack::{Stack, last_mark};
+pub use stack::{Stack, last_mark, places_in};

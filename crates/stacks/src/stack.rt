@@ -6,7 +6,7 @@
 // would be one more fact to say.
 ghost use Rattle.std.specs.Prelude.{◌≡◌, ◌⊎◌, ◌+◌, ◌-◌, ◌*◌, ◌≤◌, ◌<◌, MatchOption, length};
 ghost use Rattle.plans.specs.Plans.{state_size, keys_size, half_of, half_with};
-ghost use Rattle.stacks.specs.Doors.{linked_at_once};
+ghost use Rattle.stacks.specs.Doors.{linked_at_once, places_in};
 ghost use Rattle.stacks.specs.Stacks.{StackFits, RunOn, Pushed, Fetched, last_mark};
 
 use crate::taken::advance;
@@ -19,6 +19,14 @@ pub struct Stack {
     pub base: usize,
     pub places: usize,
     pub depth: usize,
+}
+
+// How many states of this size find room, up to the 64 that there are marks for; none, where states have no size.
+#[tactic(auto, unfolding(crate::specs::Doors::places_in))]
+pub fn places_in(room: usize, size: usize) -> usize
+    ensures { result ≡ places_in room size }
+{
+    if size == 0 { 0 } else { (room / size).min(64) }
 }
 
 // Where the state t of a stack begins, counted from 0, if the stack begins at `base`.

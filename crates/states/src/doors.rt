@@ -1,13 +1,11 @@
 // The doors: states made, or made and the last joined with another, where the plan can be followed and what
-// is lent has room; a run filled, where it has room. Else nothing is done. A door answers whether it was taken:
-// no value stands beside that, and there is one reason alone why not.
-ghost use Rattle.std.specs.Prelude.{◌≡◌, true, ℕ, ◌+◌, ◌<◌, leb, length};
+// is lent has room. Else nothing is done. A door answers whether it was taken: no value stands beside that, and
+// there is one reason alone why not.
+ghost use Rattle.std.specs.Prelude.{◌≡◌, true, ◌+◌, ◌<◌, leb, length};
 ghost use Rattle.basics.specs.Cases.{EitherBy};
-ghost use Rattle.states.specs.Runs.{Between};
 ghost use Rattle.states.specs.States.{Advanced, Joined};
 ghost use Rattle.states.specs.Doors.{held_fits, can_hold, can_make, state_fits, same_or_apart, advances, joins};
 
-use crate::runs::fill_run;
 use crate::state::{Batch, Stretch, half_with, make_joined, make_states};
 use plans::{Followed, Plan};
 
@@ -57,7 +55,7 @@ fn can_make(followed: Followed, states: Stretch, held: usize) -> bool
 }
 
 // Whether a state at this place finds room behind the keys.
-fn state_fits(followed: Followed, at: usize, work: usize) -> bool
+pub fn state_fits(followed: Followed, at: usize, work: usize) -> bool
     ensures { result ≡ state_fits followed.plan at work }
 {
     if followed.keys_size() > at {
@@ -187,17 +185,5 @@ pub fn advance_joined(
         return false;
     }
     make_joined(best, work, held, followed, Batch { states }, from, ends);
-    true
-}
-
-// to[at + c] = v for c below n.
-pub fn fill(to: &mut [u16], at: usize, n: usize, v: u16) -> bool
-    ensures value { result ≡ leb (at + n) (length to.old) }
-    ensures either { EitherBy result (Between (λ (k : ℕ). v) to.old to.new at (at + n)) (to.new ≡ to.old) }
-{
-    if !lies_in(at, n, to.len()) {
-        return false;
-    }
-    fill_run(to, at, n, v);
     true
 }

@@ -20,5 +20,5 @@ mod rows;
 mod runs;
 mod state;
 
-pub use doors::{advance, advance_joined, can_hold, fill, lies_in};
+pub use doors::{advance, advance_joined, can_hold, lies_in, state_fits};
 pub use state::Stretch;

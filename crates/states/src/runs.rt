@@ -36,7 +36,7 @@ pub(crate) fn raise_run(to: &mut [u16], from: &[u16], v: u16)
 }
 
 // to[at + c] = v for c below n. By hand it takes the place and not a slice: its callers speak of places of the
-// whole list, as the door `fill` does.
+// whole list, and what it leaves of them is proved here once for all four.
 pub(crate) fn fill_run(to: &mut [u16], at: usize, n: usize, v: u16)
     requires { at + n ≤ length to.old }
     ensures { Between (λ (k : ℕ). v) to.old to.new at (at + n) }

@@ -7,7 +7,7 @@
 ghost use Rattle.std.specs.Prelude.{◌≡◌, ◌⊎◌, ◌+◌, ◌-◌, ◌*◌, ◌≤◌, ◌<◌, length};
 ghost use Rattle.eights.specs.Turned.{numbers};
 ghost use Rattle.states.specs.Runs.{Apart};
-ghost use Rattle.plans.specs.Plans.{rows_in, row_lo, row_hi, row_at, state_size, keys_size, block_of, half_of, half_with, starts};
+ghost use Rattle.plans.specs.Plans.{rows_in, state_size, keys_size, block_of, half_of, half_with, starts};
 ghost use Rattle.states.specs.States.{Advanced, Joined, further_in};
 ghost use Rattle.states.specs.Holding.{Slotted, Halves, MadeRow, NextRows, AllRows, LastRow, tap_of};
 
@@ -15,7 +15,7 @@ use crate::blends::Taps;
 use crate::rows::{blend_row, join_row, load_row, start_row, store_row};
 use crate::runs::fill_run;
 use eights::NOTHING;
-use plans::{Followed, Plan, Row, rows_in};
+use plans::{Followed, Plan, rows_in};
 
 // States that are made at once: from number `first` below `past`.
 #[derive(Clone, Copy)]
@@ -58,14 +58,6 @@ fn further(slots: Slots, by: usize) -> Slots
         was: slots.was + by,
         now: slots.now + by,
     }
-}
-
-// Row m of state e, which is one of the plan's.
-fn row_in(followed: Followed, e: usize, m: usize) -> Row
-    requires e_bound { (e < 65536) × (m < rows_in followed.plan e) }
-    ensures { (result.lo ≡ row_lo followed.plan e m) × (result.hi ≡ row_hi followed.plan e m) × (result.at ≡ row_at followed.plan e m) }
-{
-    plans::row_of(followed.plan, e, m)
 }
 
 // How much the rows of one number take, where `more` states are made at once with the first.
@@ -127,7 +119,7 @@ fn hold_last(
     if e == 0 {
         fill_run(held, slot, followed.block_size(), NOTHING);
     } else {
-        let row = row_in(followed, e - 1, m);
+        let row = followed.row(e - 1, m);
         let at = from + m * (followed.plan.planes * followed.plan.across);
         load_row(held, slot, work, at, followed.plan, row);
     }
@@ -139,7 +131,7 @@ fn make_row(held: &mut [u16], work: &[u16], followed: Followed, e: usize, m: usi
     requires slotted { Slotted followed.plan slots (length held.old) }
     ensures { MadeRow followed.plan e m work.now slots (numbers held.old) (numbers held.new) }
 {
-    let row = row_in(followed, e, m);
+    let row = followed.row(e, m);
     if starts_at(followed.plan, e, m) {
         start_row(held, slots.now, work, followed.plan, row, m);
         return;
@@ -229,7 +221,7 @@ pub(crate) fn make_states(
     for m in 0..rows {
         make_rows(held, work, followed, batch, from, m, slots, last);
         let at = to + m * (followed.plan.planes * followed.plan.across);
-        let row = row_in(followed, e, m);
+        let row = followed.row(e, m);
         store_row(work, at, held, slots.now, followed.plan, row);
         slots = swapped(slots);
     }
@@ -263,7 +255,7 @@ pub(crate) fn make_joined(
         make_rows(held, work, followed, batch, from, m, slots, last);
         let at = ends
             + (followed.plan.rows - 1 - m) * (followed.plan.planes * followed.plan.across);
-        let row = row_in(followed, e, m);
+        let row = followed.row(e, m);
         join_row(best, held, slots.now, work, at, followed.plan, row);
         slots = swapped(slots);
     }

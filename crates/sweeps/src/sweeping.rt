@@ -14,14 +14,6 @@ use states::Stretch;
 // library pixel 0 of a row, which has a zero before it, begins a vector of eight.
 const LEAD: usize = 3;
 
-// How many states find room, but for one, up to 64.
-fn states_fitting(room: usize, size: usize) -> usize
-    requires { (1 ≤ size) × (2 * size ≤ room) }
-    ensures { (1 ≤ result) × (result ≤ 64) × (result * size + size ≤ room) }
-{
-    (room / size - 1).min(64)
-}
-
 // The sides of a direction whose states are not linked: one state finds room.
 fn sweep_apart(
     best: &mut [u16],
@@ -52,7 +44,8 @@ fn sweep_apart(
     }
 }
 
-// The sides of a direction whose states are linked: those of this side come from a stack.
+// The sides of a direction whose states are linked: those of this side come from a stack, which leaves room for
+// the other side's state behind it.
 fn sweep_linked(
     best: &mut [u16],
     work: &mut [u16],
@@ -68,7 +61,7 @@ fn sweep_linked(
 {
     let base = ours.keys_size();
     let size = ours.state_size();
-    let places = states_fitting(work.len() - base, size);
+    let places = stacks::places_in(work.len() - base - size, size);
     let ends = base + places * size;
     let spare = stacks::at_once(ours.plan, held.len()) - 1;
     let mut marks = [0usize; 64];

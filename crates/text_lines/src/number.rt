@@ -22,7 +22,7 @@ pub fn number_in(s: &[u8]) -> Option<usize>
         if !b.is_ascii_digit() {
             return None;
         }
-        v = v * BASE + (*b - b'0') as usize;
+        v = v * BASE + usize::from(*b - b'0');
     }
     (v <= MAX_NUMBER).then_some(v)
 }
@@ -42,7 +42,7 @@ pub fn edition_in(s: &[u8]) -> Option<usize>
 }
 
 // Fills out with the numbers that these bytes list, and says whether they are a list of as many as it has
-// places for.
+// places for. By hand, the cast that narrows: it is proved to fit, where `try_from` would answer a Result.
 pub fn list_in(s: &[u8], out: &mut [u16]) -> bool
     ensures out_after { whether result out.new ≡ list (length out.old) s.now }
     ensures out_after_2 { out.new ≡ filled_by (parts s.now) out.old }

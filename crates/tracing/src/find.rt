@@ -1,4 +1,6 @@
 // The best path through the picked pixel, by numbers.
+// By hand: that an index is one of the four directions, two methods here and `Scan::new` say each. headings and plate
+// give and take it as a plain number: a type of it would be made and taken apart at each use, which is no plainer.
 ghost use Rattle.std.specs.Prelude.{◌≡◌, true, ◌+◌, ◌-◌, ◌*◌, ◌^◌, ◌≤◌, ◌<◌, Some, min, length};
 ghost use Rattle.plate.specs.Sizes.{GoodSize};
 ghost use Rattle.tracing.specs.Scans.{key_of};

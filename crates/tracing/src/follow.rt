@@ -60,14 +60,6 @@ fn place_of(scan: Scan, sight: Sight, stand: Stand) -> usize
     )
 }
 
-// How many states find room, up to 64.
-fn states_fitting(room: usize, size: usize) -> usize
-    requires { (1 ≤ size) × (size ≤ room) }
-    ensures { (1 ≤ result) × (result ≤ 64) × (result * size ≤ room) }
-{
-    (room / size).min(64)
-}
-
 // How many states are made with the one that is wanted, which is the last: on ranks so many, else one.
 fn wanted(plan: Plan, states: usize) -> usize
     ensures { result ≡ cond plan.ranked states 1 }
@@ -151,7 +143,7 @@ fn follow_counted(path: &mut [usize], work: &mut [u16], plate: &[i16], scan: Sca
     let base = followed.keys_size();
     let empty = Stack {
         base,
-        places: states_fitting(work.len() - base, followed.state_size()),
+        places: stacks::places_in(work.len() - base, followed.state_size()),
         depth: 0,
     };
     let stack = fetch(

@@ -13,7 +13,7 @@ use Rattle.plans.specs.declared.plan.Plan.{Plan}
 use Rattle.plans.proofs.FormFacts.{both, formed}
 use Rattle.plans.proofs.PlanSizes.{rows_few}
 use Rattle.states.specs.Doors.{state_fits}
-use Rattle.states.proofs.DoorTests.{state_1, state_2, state_facts}
+use Rattle.states.proofs.DoorTests.{state_2, state_facts}
 use Rattle.walks.specs.Noting.{steps_past}
 use Rattle.walks.specs.Picking.{OnRow}
 use Rattle.walks.specs.Doors.{can_read, can_note, can_end, on_row, can_step}
@@ -26,9 +26,9 @@ module _ (p : Plan) (base work : ℕ) where
   unfolding can_read
   read_1 a = rw a refl
 
-  pub read_2 : well_formed p ≡ true → base < keys_size p → false ≡ can_read p base work
+  pub read_2 : well_formed p ≡ true → state_fits p base work ≡ can_read p base work
   unfolding can_read
-  read_2 a b = rw a (state_1 p base work b)
+  read_2 a = rw a refl
 
   pub read_3 : well_formed p ≡ true → keys_size p ≤ base → leb (base + state_size p) work ≡ can_read p base work
   unfolding can_read

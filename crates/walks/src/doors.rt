@@ -17,7 +17,6 @@ use crate::found::{Found, Paths};
 use crate::stand::Stand;
 use crate::{far_end, found, notes, step};
 use plans::{Followed, Plan};
-use states::lies_in;
 
 // Whether the plan can be followed and a state of it stands at `base`, behind the keys.
 fn can_read(plan: Plan, base: usize, work: usize) -> bool
@@ -26,10 +25,7 @@ fn can_read(plan: Plan, base: usize, work: usize) -> bool
     let Some(followed) = Followed::new(plan) else {
         return false;
     };
-    if followed.keys_size() > base {
-        return false;
-    }
-    lies_in(base, followed.state_size(), work)
+    states::state_fits(followed, base, work)
 }
 
 // One more than the most steps that walks of state e have.

@@ -8,7 +8,6 @@ ghost use Rattle.walks.specs.Picking.{Picked, FirstOf, RowsFrom, OfSteps};
 
 use crate::ended::ended_at;
 use crate::stand::Stand;
-use crate::taken::row_in;
 use plans::Followed;
 
 // Some rows of a state: those from `first` below `past`.
@@ -46,7 +45,7 @@ fn find_among(
 {
     let plan = followed.plan;
     for row in rows.first..rows.past {
-        let r = row_in(followed, rows.state, row);
+        let r = followed.row(rows.state, row);
         let plane = base + row * (plan.planes * plan.across) + gaps * plan.across;
         let numbers = &work[plane + r.lo..plane + r.hi];
         let keys = &work[r.at + r.lo..r.at + r.hi];

@@ -14,7 +14,6 @@ mod found;
 mod notes;
 mod stand;
 mod step;
-mod taken;
 
 pub use doors::{find_end, nearer, note_state, search};
 pub use found::{Found, Paths};

@@ -7,7 +7,6 @@ ghost use Rattle.walks.specs.Noting.{Highest, Lifted, FromRow, FromState, steps_
 ghost use Rattle.walks.specs.Endings.{ended_in};
 
 use crate::ended::ended_at;
-use crate::taken::row_in;
 use plans::{Followed, Plan, Row};
 
 // The highest of these numbers, or v where that is higher.
@@ -85,7 +84,7 @@ pub(crate) fn note_state(
     let rows = plans::rows_in(plan, e);
     for m in 0..rows {
         let steps = steps_in(plan, e, m);
-        let row = row_in(followed, e, m);
+        let row = followed.row(e, m);
         let at = base + m * (plan.planes * plan.across);
         note_row(notes, steps * plan.planes, work, at, plan, row, slack);
     }

@@ -6,7 +6,6 @@ ghost use Rattle.plans.specs.Plans.{rows_in, state_size};
 ghost use Rattle.walks.specs.Picking.{stored_at, Picked, JustBefore, TapTo, StepTo, OnRow};
 
 use crate::stand::Stand;
-use crate::taken::row_in;
 use plans::Followed;
 
 // The gaps that are left after a pixel with this key, on a path that counts at t; 0 where none was left.
@@ -35,7 +34,7 @@ fn looked(
     ensures { Picked (JustBefore state row past) (stored_at work.now base followed.plan) followed.plan gaps t result }
 {
     let plan = followed.plan;
-    let r = row_in(followed, state, row);
+    let r = followed.row(state, row);
     if past <= r.lo {
         return None;
     }

@@ -1,6 +1,6 @@
 -- `hold_last` meets its contract: the slot is filled with zeros where there is no last state, and with its row m otherwise. Where states are not
 -- linked nothing is asked of it.
-use Prim.Native.Nat.{◌-◌}
+use Prim.Native.Nat.{◌-◌, ◌<◌}
 use mathlib.Core.Path.{◌≡◌, refl}
 use native.Mathlib.Omega.{arith}
 use borrow.Author.Tests.{not-true, not-false}
@@ -25,10 +25,6 @@ returns-then-not-followed c = record { last_row = last_unlinked _ _ _ _ _ _ _ (n
 pub fill_run-requires : goal.fill_run-requires
 fill_run-requires c = omega (arith, c.block_size.ensures.0, room (goal.at.fill_run-requires c).Else-not-followed, c.requires.e_bound.2)
 
-pub row_in-row-requires : goal.row_in-row-requires
-row_in-row-requires c =
-    let a = c.args in record { e_bound = (omega (arith, c.requires.e_bound), row_before_lem a.followed.plan a.e _ a.m (well_formed_sound _ c.args.followed.formed) (omega arith) c.requires.e_bound.1) }
-
 pub overflow_mul-at : goal.overflow_mul-at
 overflow_mul-at c = omega (arith, row_bound c.args.followed.plan c.args.followed.formed)
 
@@ -45,8 +41,10 @@ overflow_add-at c =
 pub load_row-requires : goal.load_row-requires
 load_row-requires c =
     let a = c.args in
-    let row = row_before_lem a.followed.plan a.e (a.e - 1) a.m (well_formed_sound _ c.args.followed.formed) (omega arith) c.requires.e_bound.1 in (
-      row_fits a.followed.plan _ a.m c.row_in-row.result (well_formed_sound _ c.args.followed.formed) (omega (arith, c.requires.e_bound)) row c.row_in-row.ensures.0 c.row_in-row.ensures.1,
+    let row = row_before_lem a.followed.plan a.e (a.e - 1) a.m (well_formed_sound _ c.args.followed.formed) (omega arith) c.requires.e_bound.1 in
+    let near : a.e - 1 < 65536 = omega (arith, c.requires.e_bound) in
+    let r = c.row-row.ensures.inside near row in (
+      row_fits a.followed.plan _ a.m c.row-row.result (well_formed_sound _ c.args.followed.formed) near row r.0 r.1,
       omega (arith, room (goal.at.load_row-requires c).Else-not-followed, c.requires.e_bound.2),
       omega (arith, c.requires.e_bound, row_within a.followed.plan a.e a.m c.requires.e_bound.1),
     )
@@ -57,4 +55,4 @@ returns-then-e-eq0 c =
 
 pub returns-else-e-eq0 : goal.returns-else-e-eq0
 returns-else-e-eq0 c =
-    let r = c.row_in-row.ensures in record { last_row = last_some _ _ _ _ _ _ _ (well_formed_sound _ c.args.followed.formed) _ _ _ (c.args.e - 1) (omega arith) c.requires.e_bound.1 r.0 r.1 refl c.load_row.ensures.row_held; apart = apart_of _ _ _ _ _ (room (goal.at.returns-else-e-eq0 c).Else-not-followed) c.load_row.ensures.apart }
+    let r = c.row-row.ensures.inside (omega (arith, c.requires.e_bound)) (row_before_lem _ c.args.e _ c.args.m (well_formed_sound _ c.args.followed.formed) (omega arith) c.requires.e_bound.1) in record { last_row = last_some _ _ _ _ _ _ _ (well_formed_sound _ c.args.followed.formed) _ _ _ (c.args.e - 1) (omega arith) c.requires.e_bound.1 r.0 r.1 refl c.load_row.ensures.row_held; apart = apart_of _ _ _ _ _ (room (goal.at.returns-else-e-eq0 c).Else-not-followed) c.load_row.ensures.apart }

@@ -70,18 +70,16 @@ overflow_mul-at-in-loop-m c = omega (arith, within (goal.at.overflow_mul-at-in-l
 pub overflow_add-at : goal.overflow_add-at
 overflow_add-at c = omega (arith, within (goal.at.overflow_add-at c).In-loop-m, c.requires.plan_bound, c.well_formed)
 
-pub row_in-row-requires : goal.row_in-row-requires
-row_in-row-requires c =
-    record { e_bound = (omega (arith, c.args.batch.some, c.args.batch.near), row_left (goal.at.row_in-row-requires c).In-loop-m) }
-
 pub join_row-requires : goal.join_row-requires
 join_row-requires c =
     let l = c.loop-m in
     let p = c.args.followed.plan in
     let e = c.args.batch.states.past - 1 in
     let near = let w : e < 65536 = omega (arith, c.args.batch.some, c.args.batch.near) in w in
-    let keyed = row_keyed p e l.m c.row_in-row.result.at (well_formed_sound _ c.args.followed.formed) near (row_left (goal.at.join_row-requires c).In-loop-m) c.row_in-row.ensures.2 in (
-      row_fits p e l.m c.row_in-row.result (well_formed_sound _ c.args.followed.formed) near (row_left (goal.at.join_row-requires c).In-loop-m) c.row_in-row.ensures.0 c.row_in-row.ensures.1,
+    let left = row_left (goal.at.join_row-requires c).In-loop-m in
+    let r = c.row-row.ensures.inside near left in
+    let keyed = row_keyed p e l.m c.row-row.result.at (well_formed_sound _ c.args.followed.formed) near left r.2 in (
+      row_fits p e l.m c.row-row.result (well_formed_sound _ c.args.followed.formed) near left r.0 r.1,
       omega (arith, half_room p, halves_room p 0 _ l.slots _ l.invariant.0 (omega arith), c.make_rows.auto.held),
       omega (arith, within (goal.at.join_row-requires c).In-loop-m, c.requires.plan_bound),
       omega (arith, keyed, c.requires.past_value, l.invariant.2.len),
@@ -90,7 +88,7 @@ join_row-requires c =
 pub loop-m-preserved : goal.loop-m-preserved
 loop-m-preserved c =
     let i = c.loop-m.invariant in
-    let r = c.row_in-row.ensures in
+    let r = c.row-row.ensures.inside (omega (arith, c.args.batch.some, c.args.batch.near)) (row_left (goal.at.loop-m-preserved c).In-loop-m) in
     let w = c.swapped-slots.ensures in
     let m = made (goal.at.loop-m-preserved c).After-make_rows in
     let placed = ap (λ (q : ℕ). c.args.ends + q * row_size c.args.followed.plan) (let e : c.args.followed.plan.rows - 1 - c.loop-m.m ≡ c.args.followed.plan.rows - (c.loop-m.m + 1) = omega arith in e) in (

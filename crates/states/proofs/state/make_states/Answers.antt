@@ -58,17 +58,16 @@ make_rows-requires c =
       last_value = omega (arith, c.block_size.ensures, c.half_with-half.ensures);
     }
 
-pub row_in-row-requires : goal.row_in-row-requires
-row_in-row-requires c =
-    record { e_bound = (omega (arith, c.args.batch.some, c.args.batch.near), row_left (goal.at.row_in-row-requires c).In-loop-m) }
-
 pub store_row-requires : goal.store_row-requires
 store_row-requires c =
     let p = c.args.followed.plan in
-    let e = c.args.batch.states.past - 1 in (
-      row_fits p e c.loop-m.m c.row_in-row.result (well_formed_sound _ c.args.followed.formed) (omega (arith, c.args.batch.some, c.args.batch.near)) (row_left (goal.at.store_row-requires c).In-loop-m) c.row_in-row.ensures.0 c.row_in-row.ensures.1,
+    let e = c.args.batch.states.past - 1 in
+    let near : e < 65536 = omega (arith, c.args.batch.some, c.args.batch.near) in
+    let left = row_left (goal.at.store_row-requires c).In-loop-m in
+    let r = c.row-row.ensures.inside near left in (
+      row_fits p e c.loop-m.m c.row-row.result (well_formed_sound _ c.args.followed.formed) near left r.0 r.1,
       omega (arith, half_room p, halves_room p 0 _ c.loop-m.slots _ c.loop-m.invariant.0 (omega arith), c.make_rows.auto.held),
-      omega (arith, row_within p e c.loop-m.m (row_left (goal.at.store_row-requires c).In-loop-m), c.requires.plan_bound, c.loop-m.invariant.2.apart.len),
+      omega (arith, row_within p e c.loop-m.m left, c.requires.plan_bound, c.loop-m.invariant.2.apart.len),
     )
 
 pub overflow_mul-at : goal.overflow_mul-at
@@ -85,7 +84,7 @@ overflow_add-at c =
 pub loop-m-preserved : goal.loop-m-preserved
 loop-m-preserved c =
     let i = c.loop-m.invariant in
-    let r = c.row_in-row.ensures in
+    let r = c.row-row.ensures.inside (omega (arith, c.args.batch.some, c.args.batch.near)) (row_left (goal.at.loop-m-preserved c).In-loop-m) in
     let w = c.swapped-slots.ensures in
     let m = made (goal.at.loop-m-preserved c).After-make_rows in (
       halves_swapped _ _ _ _ _ _ i.0 w.0 w.1 c.make_rows.auto.held,

@@ -11,34 +11,42 @@ use Rattle.stacks.specs.Stacks.{StackFits}
 use Rattle.stacks.specs.Doors.{fetches}
 use Rattle.plans.proofs.FormLaws.{well_formed_sound}
 use Rattle.states.proofs.DoorTests.{hold_if}
-use Rattle.stacks.proofs.DoorTests.{fetches_if, top_4}
+use Rattle.stacks.proofs.DoorTests.{fetches_if, places_facts, top_4}
 use Rattle.stacks.proofs.StackLaws.{states_below, half_one, half_fewer}
 use Rattle.sweeps.proofs.SweepLaws.{some_size, StackAt, same_keys, same_size, same_half, full_last, swept_none, swept_all, stack_none, stack_fits_lem, top_fits, linked_turn}
 use Rattle.sweeps.proofs.sweeping.sweep_linked.Goals as goal
-use Rattle.sweeps.proofs.sweeping.sweep_linked.Goals.{After-at_once-spare, After-fetch-stack, After-states_fitting-places, After-top_of-from}
+use Rattle.sweeps.proofs.sweeping.sweep_linked.Goals.{After-at_once-spare, After-fetch-stack, After-places_in-places, After-top_of-from}
 
 -- ---- before the loop
 pub overflow_sub-work : goal.overflow_sub-work
 overflow_sub-work c = omega (arith, c.keys_size-base.ensures, c.requires.plan_in_bounds.0)
 
-pub states_fitting-places-requires : goal.states_fitting-places-requires
-states_fitting-places-requires c =
-    let size = c.state_size-size.ensures in (
-      omega (arith, size, some_size c.args.ours.plan (well_formed_sound _ c.args.ours.formed)),
-      omega (arith, size, c.keys_size-base.ensures, c.requires.plan_in_bounds.0),
-    )
+pub overflow_sub-work-2 : goal.overflow_sub-work-2
+overflow_sub-work-2 c = omega (arith, c.state_size-size.ensures, c.keys_size-base.ensures, c.requires.plan_in_bounds.0)
 
--- so many states find room behind the keys, and one more; no product wraps
-room : (n : After-states_fitting-places) → let p = n.args.ours.plan in
-    let all = n.states_fitting-places.result * state_size p in
-    (n.states_fitting-places.result * n.state_size-size.result ≡ all) × (all ≤ 603979776) × (keys_size p + all + state_size p ≤ length n.args.work.now)
+-- so many places find room behind the keys, and one state more
+found : (n : After-places_in-places) → let places = n.places_in-places.result in
+    let left = length n.args.work.now - n.keys_size-base.result - n.state_size-size.result in
+    (1 ≤ places) × (places ≤ 64) × (places * n.state_size-size.result ≤ left)
+found n =
+    let size = n.state_size-size in
+    let left = length n.args.work.now - n.keys_size-base.result - size.result in
+    subst (λ (q : ℕ). (1 ≤ q) × (q ≤ 64) × (q * size.result ≤ left)) (sym n.places_in-places.ensures)
+    (places_facts left size.result
+    (omega (arith, size.ensures, some_size n.args.ours.plan (well_formed_sound _ n.args.ours.formed)))
+    (omega (arith, size.ensures, n.keys_size-base.ensures, n.requires.plan_in_bounds.0)))
+
+-- no product wraps
+room : (n : After-places_in-places) → let p = n.args.ours.plan in
+    let all = n.places_in-places.result * state_size p in
+    (n.places_in-places.result * n.state_size-size.result ≡ all) × (all ≤ 603979776) × (keys_size p + all + state_size p ≤ length n.args.work.now)
 room n =
     let f = n.args.ours in
-    let places = n.states_fitting-places in
+    let places = n.places_in-places in
     let size = n.state_size-size.ensures.0 in
-    let fits = rw size at places.ensures.2 in (
+    let fits = rw size at (found n).2 in (
       ap (λ (q : ℕ). places.result * q) size,
-      states_below f.plan places.result (well_formed_sound _ f.formed) places.ensures.1,
+      states_below f.plan places.result (well_formed_sound _ f.formed) (found n).1,
       omega (arith, fits, n.keys_size-base.ensures, n.requires.plan_in_bounds.0),
     )
 
@@ -78,8 +86,8 @@ advance-requires c =
     let a = c.args in
     let i = c.loop-e.invariant in
     let base = c.keys_size-base.ensures in
-    let r = room (goal.at.advance-requires c).After-states_fitting-places in
-    let ends = c.keys_size-base.result + c.states_fitting-places.result * c.state_size-size.result in
+    let r = room (goal.at.advance-requires c).After-places_in-places in
+    let ends = c.keys_size-base.result + c.places_in-places.result * c.state_size-size.result in
     let clear : keys_size a.theirs.plan ≤ ends = omega (arith, base, same_keys a.ours.plan a.theirs.plan a.states c.requires.opposite) in
     let fits : ends + state_size a.theirs.plan ≤ length c.loop-e.work = omega (arith, base, r, same_size a.ours.plan a.theirs.plan a.states c.requires.opposite, i.1) in record {
       first_lt_past = (omega arith, omega (arith, c.requires.opposite.few, c.loop-e-test.true), clear, clear, fits, fits);
@@ -109,19 +117,20 @@ fetched : (f : After-fetch-stack) (spare : ℕ) (P Q : Type 0) →
 fetched f spare P Q e few =
     let a = f.args in
     let i = f.loop-e.invariant in
-    let fits : keys_size a.ours.plan + f.states_fitting-places.result * state_size a.ours.plan + state_size a.ours.plan ≤ length f.advance.new.work =
-    omega (arith, f.advance.ensures.advanced.apart.len, i.1, room (goal.at.After-fetch-stack f).After-states_fitting-places) in
+    let places = found (goal.at.After-fetch-stack f).After-places_in-places in
+    let fits : keys_size a.ours.plan + f.places_in-places.result * state_size a.ours.plan + state_size a.ours.plan ≤ length f.advance.new.work =
+    omega (arith, f.advance.ensures.advanced.apart.len, i.1, room (goal.at.After-fetch-stack f).After-places_in-places) in
     let taken = fetches_if a.ours.plan f.loop-e.stack (a.states - 1 - f.loop-e.e) spare (length f.advance.new.work) (length f.loop-e.marks) (length f.advance.new.held) f.args.ours.formed
     (omega (arith, f.advance.ensures.held_len_unchanged, i.2, f.requires.plan_in_bounds_2.0))
     (omega (arith, f.advance.ensures.held_len_unchanged, i.2, f.requires.plan_in_bounds_2.1))
     (subst (λ (m : ℕ). StackFits a.ours.plan f.loop-e.stack (length f.advance.new.work) m) (sym i.3)
-    (stack_fits_lem a.ours.plan (well_formed_sound _ f.args.ours.formed) f.states_fitting-places.result (length f.advance.new.work) f.loop-e.stack f.states_fitting-places.ensures.0 f.states_fitting-places.ensures.1 fits i.4))
+    (stack_fits_lem a.ours.plan (well_formed_sound _ f.args.ours.formed) f.places_in-places.result (length f.advance.new.work) f.loop-e.stack places.0 places.1 fits i.4))
     (omega (arith, f.requires.opposite.few)) few in
     rw taken at e
 
 -- the stack that came back
 stack_at : (f : After-fetch-stack) → let a = f.args in
-    StackAt a.ours.plan f.states_fitting-places.result f.fetch-stack.result
+    StackAt a.ours.plan f.places_in-places.result f.fetch-stack.result
 stack_at f =
     let e = (fetched f _ _ _ f.fetch-stack.ensures.either (omega (arith, f.at_once-spare.ensures.lower_bound))).0 in
     let i = f.loop-e.invariant.4 in
@@ -134,7 +143,7 @@ top_is t =
     let k = stack_at (goal.at.After-top_of-from t).After-fetch-stack in
     t.top_of-from.ensures
     ∙ sym
-    (top_4 _ _ t.args.ours.formed (omega (arith, k.deep, t.states_fitting-places.ensures.1))
+    (top_4 _ _ t.args.ours.formed (omega (arith, k.deep, (found (goal.at.After-top_of-from t).After-places_in-places).1))
     (omega (arith, k.is_base, (well_formed_sound _ t.args.ours.formed).few_pixels)))
 
 pub slice_bounds-last_mark-end : goal.slice_bounds-last_mark-end
@@ -152,11 +161,12 @@ advance_joined-requires c =
     let g = fetched (goal.at.advance_joined-requires c).After-fetch-stack _ _ _ c.fetch-stack.ensures.either (omega (arith, c.at_once-spare.ensures.lower_bound)) in
     let m = c.last_mark.ensures in
     let taken = c.loop-e-test.true in
-    let r = room (goal.at.advance_joined-requires c).After-states_fitting-places in
+    let places = found (goal.at.advance_joined-requires c).After-places_in-places in
+    let r = room (goal.at.advance_joined-requires c).After-places_in-places in
     let base = c.keys_size-base.ensures in
-    let fits : keys_size a.ours.plan + c.states_fitting-places.result * state_size a.ours.plan + state_size a.ours.plan ≤ length c.fetch-stack.new.work =
+    let fits : keys_size a.ours.plan + c.places_in-places.result * state_size a.ours.plan + state_size a.ours.plan ≤ length c.fetch-stack.new.work =
     omega (arith, g.1.apart.len, c.advance.ensures.advanced.apart.len, i.1, r) in
-    let top = top_fits a.ours.plan (well_formed_sound _ c.args.ours.formed) c.states_fitting-places.result (length c.fetch-stack.new.work) c.fetch-stack.result c.states_fitting-places.ensures.0 c.states_fitting-places.ensures.1 fits
+    let top = top_fits a.ours.plan (well_formed_sound _ c.args.ours.formed) c.places_in-places.result (length c.fetch-stack.new.work) c.fetch-stack.result places.0 places.1 fits
     (stack_at (goal.at.advance_joined-requires c).After-fetch-stack) c.top_of-from.result (top_is (goal.at.advance_joined-requires c).After-top_of-from) in record {
       first_lt_past = (
         omega (arith, m, g.1.not_past),
@@ -179,7 +189,7 @@ loop-e-preserved c =
     let g = fetched (goal.at.loop-e-preserved c).After-fetch-stack _ _ _ c.fetch-stack.ensures.either (omega (arith, c.at_once-spare.ensures.lower_bound)) in
     let base = c.keys_size-base.ensures.0 in
     let size = c.state_size-size.ensures.0 in
-    let turn = linked_turn a.ours.plan a.theirs.plan a.states (well_formed_sound _ c.args.ours.formed) (well_formed_sound _ c.args.theirs.formed) c.requires.opposite c.loop-e.e (a.states - 1 - c.loop-e.e) c.states_fitting-places.result c.top_of-from.result
+    let turn = linked_turn a.ours.plan a.theirs.plan a.states (well_formed_sound _ c.args.ours.formed) (well_formed_sound _ c.args.theirs.formed) c.requires.opposite c.loop-e.e (a.states - 1 - c.loop-e.e) c.places_in-places.result c.top_of-from.result
     c.last_mark.result _ c.loop-e.stack c.fetch-stack.result a.work.now a.best.now c.loop-e.work c.loop-e.best c.advance.new.work c.fetch-stack.new.work c.advance_joined.new.best c.loop-e.marks c.fetch-stack.new.marks
     c.loop-e-test.true refl i.4 g.0.0 (top_is (goal.at.loop-e-preserved c).After-top_of-from) c.last_mark.ensures (rw (base, size) at i.5) i.6 (rw (base, size) at c.advance.ensures.advanced) g.1 (rw (base, size) at c.advance_joined.ensures.joined) in (
       c.advance_joined.ensures.best_len_unchanged ∙ i.0,

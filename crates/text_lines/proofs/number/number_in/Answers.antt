@@ -28,7 +28,8 @@ pub loop-b-preserved : goal.loop-b-preserved
 loop-b-preserved c =
     let s = c.args.s.now in
     let i = c.loop-b.b-index in
-    let d : is_digit (get_or s i 0) ≡ true = digit_same _ ∙ sym c.is_ascii_digit.ensures.value ∙ c.if-not-is_ascii_digit.false in (
+    let d : is_digit (get_or s i 0) ≡ true = digit_same _ ∙ sym c.is_ascii_digit.ensures.value ∙ c.if-not-is_ascii_digit.false in
+    rw (c.from.ensures) (
       ten_more c.loop-b.v (get_or s i 0 - 48) i c.loop-b.invariant.0 (omega (arith, (digit_range _ d).1)),
       valued_more s i c.loop-b.v c.loop-b.invariant.1 (omega arith) d,
     )

@@ -1,12 +1,13 @@
 -- `follow_counted` meets its contract: the state with the walks of all steps is made, and from a far end that is found there the
 -- path is written.
-use Prim.Native.Nat.{ℕ, ◌-◌, ◌≤◌}
+use Prim.Native.Nat.{ℕ, ◌-◌, ◌*◌, ◌≤◌}
 use mathlib.Core.Path.{◌≡◌, refl}
 use native.Mathlib.Omega.{arith}
 use lib.ListN.{length, get_or, replicate}
 use Rattle.stacks.specs.declared.stack.Stack.{Stack}
 use Rattle.std.specs.Prelude.{Some, IsSome}
 use Rattle.states.specs.States.{Holds}
+use Rattle.stacks.proofs.DoorTests.{places_facts}
 use Rattle.walks.specs.declared.stand.Stand.{Stand}
 use Rattle.tracing.specs.Sights.{seen_at}
 use Rattle.tracing.specs.Following.{Kept, Stands, EndsAt}
@@ -23,13 +24,16 @@ start_kept :
     (c : After-wanted) →
     let a = c.args in
     Kept a.scan a.walk.backwards a.plate.now (get_or a.path.now a.walk.start 0) c.sight_of-sight.result a.work.now (replicate 64 0)
-    (record { base = c.keys_size-base.result; places = c.states_fitting.result; depth = 0 })
+    (record { base = c.keys_size-base.result; places = c.places_in.result; depth = 0 })
 start_kept c =
     let a = c.args in
     let x = get_or a.path.now a.walk.start 0 in
-    let o = c.states_fitting.ensures in
     let room = sight_room a.scan (sound_of c.args.scan) a.walk.backwards x c.sight_of-sight.result c.sight_of-sight.ensures (length a.work.now) c.requires.plate_len.1 in
-    let stack : Stack = record { base = c.keys_size-base.result; places = c.states_fitting.result; depth = 0 } in
+    let size : 1 ≤ c.state_size.result = omega (arith, room.some, c.state_size.ensures.0) in
+    let one : c.state_size.result ≤ length a.work.now - c.keys_size-base.result = omega (arith, room.alone, c.keys_size-base.ensures.0, c.state_size.ensures.0) in
+    let o : (1 ≤ c.places_in.result) × (c.places_in.result ≤ 64) × (c.places_in.result * c.state_size.result ≤ length a.work.now - c.keys_size-base.result) =
+    rw c.places_in.ensures (places_facts (length a.work.now - c.keys_size-base.result) c.state_size.result size one) in
+    let stack : Stack = record { base = c.keys_size-base.result; places = c.places_in.result; depth = 0 } in
     kept_empty a.scan a.walk.backwards a.plate.now x c.sight_of-sight.result (sound_of c.args.scan) c.sight_of-sight.ensures a.work.now (replicate 64 0) stack refl c.requires.keys_laid
     (empty_fits a.scan a.walk.backwards a.plate.now x c.sight_of-sight.result (sound_of c.args.scan) c.sight_of-sight.ensures a.work.now (replicate 64 0) stack refl room c.keys_size-base.ensures.0 o.0 o.1
     (rw c.state_size.ensures.0 at o.2) o.1)
@@ -53,12 +57,6 @@ overflow_sub-work c =
       (sight_room a.scan (sound_of c.args.scan) a.walk.backwards (get_or a.path.now a.walk.start 0) c.sight_of-sight.result c.sight_of-sight.ensures (length a.work.now) c.requires.plate_len.1).alone,
       c.keys_size-base.ensures.0,
     )
-
-pub states_fitting-requires : goal.states_fitting-requires
-states_fitting-requires c =
-    let a = c.args in
-    let room = sight_room a.scan (sound_of c.args.scan) a.walk.backwards (get_or a.path.now a.walk.start 0) c.sight_of-sight.result c.sight_of-sight.ensures (length a.work.now) c.requires.plate_len.1 in
-    (omega (arith, room.some, c.state_size.ensures.0), omega (arith, room.alone, c.keys_size-base.ensures.0, c.state_size.ensures.0))
 
 pub invariant_of-followed : goal.invariant_of-followed
 invariant_of-followed c =
@@ -99,7 +97,7 @@ module _ (c : After-find_end) where
   at = get_or c.args.path.now c.args.walk.start 0
 
   start : Kept c.args.scan c.args.walk.backwards c.args.plate.now at c.sight_of-sight.result c.args.work.now (replicate 64 0)
-      (record { base = c.keys_size-base.result; places = c.states_fitting.result; depth = 0 })
+      (record { base = c.keys_size-base.result; places = c.places_in.result; depth = 0 })
   start = start_kept (goal.at.After-find_end c).After-wanted
 
   some_wanted : 1 ≤ c.wanted.result

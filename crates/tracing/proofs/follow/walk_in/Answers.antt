@@ -11,7 +11,7 @@ use Rattle.headings.proofs.Trails.{index_within, within_less, within_few, index_
 use Rattle.tracing.proofs.Scanned.{sound_of}
 use Rattle.tracing.proofs.Inward.{inward_far}
 use Rattle.tracing.proofs.Modes.{key_read}
-use Rattle.tracing.proofs.Sighting.{sight_lines, sight_across, sight_formed, sight_sound, sight_states_few, sight_kept, keys_laid}
+use Rattle.tracing.proofs.Sighting.{sight_lines, sight_across, sight_formed, sight_sound, sight_kept, keys_laid}
 use Rattle.tracing.proofs.Nearing.{place_of, stand_row, stand_on}
 use Rattle.tracing.proofs.Walking.{Nearer, kept_fetched, top_held, top_fits, stand_wanted, stand_some, walk_on, walk_ends}
 use Rattle.tracing.proofs.follow.walk_in.Goals as goal
@@ -98,20 +98,6 @@ invariant_of-followed c =
     let a = c.args in
     record { formed = sight_formed a.scan (sound_of c.args.scan) a.walk.backwards (get_or a.path.now a.walk.start 0) a.end.sight c.requires.start_bound.1 }
 
-pub fetch-stack-requires : goal.fetch-stack-requires
-fetch-stack-requires c =
-    let a = c.args in
-    let x = get_or a.path.now a.walk.start 0 in
-    let few =
-    stand_wanted a.scan a.walk.backwards a.plate.now x a.end.sight (sound_of c.args.scan) c.requires.start_bound.1 c.requires.positive.1 a.walk.key c.requires.positive.2 a.path.now a.walk.start a.walk.steps
-    a.walk.gaps c.requires.within c.loop-n.path c.loop-n.stand c.loop-n.n c.loop-n.invariant.4 in record { stack_fits = (c.loop-n.invariant.3.fits, omega (arith, c.wanted.ensures, few, sight_states_few a.scan (sound_of c.args.scan) a.walk.backwards x a.end.sight c.requires.start_bound.1)); plan_in_bounds = (omega (arith, c.requires.held_fit.0.halves, c.loop-n.invariant.2), omega (arith, c.requires.held_fit.0.few, c.loop-n.invariant.2)) }
-
-pub top_of-requires : goal.top_of-requires
-top_of-requires c = (
-  omega (arith, c.fetch-stack.ensures.base_value.2, c.loop-n.invariant.3.fits.few),
-  omega (arith, c.fetch-stack.ensures.base_value.0, c.loop-n.invariant.3.fits.near),
-)
-
 pub nearer-requires : goal.nearer-requires
 nearer-requires c =
     let a = c.args in
@@ -190,18 +176,6 @@ loop-n-preserved c =
       (next f).stands _ is,
       (next f).inward _ is _ _ (is_index (goal.at.loop-n-preserved c).After-index_after-i) c.place_of-place.ensures,
     )
-
-pub shape_of-path : goal.shape_of-path
-shape_of-path c = c.loop-n.invariant.5.len
-
-pub shape_of-work : goal.shape_of-work
-shape_of-work c = c.loop-n.invariant.0
-
-pub shape_of-marks : goal.shape_of-marks
-shape_of-marks c = c.loop-n.invariant.1
-
-pub shape_of-held : goal.shape_of-held
-shape_of-held c = c.loop-n.invariant.2
 
 pub returns : goal.returns
 returns c =
