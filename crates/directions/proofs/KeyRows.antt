@@ -30,6 +30,10 @@ row_ends row n w at h e = omega (arith, rows_fit row 1 n w (omega arith))
 pub next_row : (row w : ℕ) → row * w + w ≡ (row + 1) * w
 next_row row w = omega (arith, add-mul row 1 w)
 
+-- after all rows
+pub last_row : (row n w at : ℕ) → at ≡ row * w → row ≤ n → n ≤ row → at ≡ n * w
+last_row row n w at e h k = e ∙ ap (λ (i : ℕ). i * w) (let same : row ≡ n = omega arith in same)
+
 -- each of its pixels lies within all rows
 pub pixel_within : (row n w at x size : ℕ) → row < n → at ≡ row * w → n * w ≤ size → x < w → at + x < size
 pixel_within row n w at x size h e l k = omega (arith, row_ends row n w at h e)

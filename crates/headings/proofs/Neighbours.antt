@@ -80,7 +80,7 @@ module _ (h : Heading) (p : ℕ) where
       one_of_three (λ (s : Step). step_from h.width h.height p s ≡ at q → (number : ℕ) × (number < 3) × (reached_at h number p ≡ at q))
       (λ z. (0, omega arith, z)) (λ z. (1, omega arith, z)) (λ z. (2, omega arith, z)) f.1 f.2
 
-  reached_on : (number q : ℕ) → reached_at h number p ≡ at q → q < h.width * h.height
+  pub reached_on : (number q : ℕ) → reached_at h number p ≡ at q → q < h.width * h.height
   unfolding reached_at
   reached_on number q e = landed_on (stepped h.width h.height _ p q e).1
 
