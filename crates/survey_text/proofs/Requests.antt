@@ -69,6 +69,11 @@ outcome_accepted : {A : Type 0} (v : Verdict A) → accepted tt ≡ outcome v �
 outcome_accepted (accepted a) e = (a, refl)
 outcome_accepted (refused n p) e = absurd (let z : ◌≡◌ {A = ℕ} 0 1 = cc in omega arith)
 
+-- what is refused is refused by that
+pub outcome_refused : {A : Type 0} (v : Verdict A) (n p : ℕ) → refused n p ≡ outcome v → v ≡ refused n p
+outcome_refused (accepted a) n p e = absurd (let z : ◌≡◌ {A = ℕ} 0 1 = cc in omega arith)
+outcome_refused (refused m q) n p e = cc
+
 module _ (h : Header) (rs ws : List ℕ) (told : accepted tt ≡ outcome (prepared (with_lists h rs ws))) where
   -- its correction is not refused
   pub not_refused : {B : Type 0} (n p : ℕ) → refused n p ≡ correction_verdict h.width h.height rs ws (h.width * h.height) → B

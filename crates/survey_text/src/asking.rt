@@ -33,20 +33,26 @@ fn fill(
     ensures result_after { request_told levels.new result ≡ prepared (with_lists head readings.now words.now) }
     ensures levels_after { levels.new ≡ levels_after (prepared (with_lists head readings.now words.now)) levels.old }
 {
-    judge(head, readings, words)?;
+    let mut tried = [0i16; MAX_PLATE];
+    judge(head, readings, words, &mut tried)?;
     let n = head.width * head.height;
     correction::correct(head.width, head.height, readings, words, &mut levels[..n])?;
     Ok(head)
 }
 
 // Whether the head's readings and words can be corrected and its setting is within the limits. The
-// correction is tried in an array that is thrown away, since 9 and 10 come before 2 to 5 and 18.
-fn judge(head: Header, readings: &[u16], words: &[u16]) -> Result<(), Refusal>
+// correction is tried in an array that is thrown away, since 9 and 10 come before 2 to 5 and 18; the caller
+// lends it, so that an edit can lend the levels (must-fail/written_though_refused).
+fn judge(
+    head: Header,
+    readings: &[u16],
+    words: &[u16],
+    tried: &mut [i16; MAX_PLATE],
+) -> Result<(), Refusal>
     requires { head.width * head.height ≤ max_plate }
     ensures { answered result ≡ outcome (prepared (with_lists head readings.now words.now)) }
 {
     let n = head.width * head.height;
-    let mut tried = [0i16; MAX_PLATE];
     correction::correct(head.width, head.height, readings, words, &mut tried[..n])?;
     head.setting.checked()?;
     Ok(())

@@ -1,9 +1,9 @@
 -- `judge` follows the definition: each return is a law of it, at what the two calls answered.
+use borrow.Author.Rules.{rules}
+use native.Mathlib.Omega.{arith}
 use mathlib.Core.Path.{◌≡◌}
-use mathlib.Core.List.{List}
 use Prim.Native.Nat.{◌*◌}
-use lib.IntN.{ℤ, pos}
-use lib.ListN.{length, take, replicate}
+use lib.ListN.{length, take}
 use lib.Seq.{length-take-le}
 use Rattle.std.proofs.lemmas.Result.{err_from_is_err_and}
 use Rattle.survey_text.specs.Reading.{PlateText}
@@ -12,15 +12,12 @@ use Rattle.survey_text.proofs.Requests.{not_corrected, not_set, passed}
 use Rattle.survey_text.proofs.asking.judge.Goals as goal
 use Rattle.survey_text.proofs.asking.judge.Goals.{Start}
 
--- the array that is thrown away, and its front
-abbrev zeros : List ℤ
-zeros = replicate 512 (pos 0)
-
 abbrev read : Start → PlateText
 read b = with_lists b.args.head b.args.readings.now b.args.words.now
 
-long : (b : Start) → length (take ((read b).width * (read b).height) zeros) ≡ (read b).width * (read b).height
-long b = length-take-le ((read b).width * (read b).height) zeros b.requires
+-- the front of the array that is thrown away
+long : (b : Start) → let n = b.args.head.width * b.args.head.height in length (take n b.args.tried.now) ≡ n
+long b = length-take-le _ _ (let many : length b.args.tried.now ≡ 512 = search rules in omega (arith, b.requires, many))
 
 pub returns-in_err-correct : goal.returns-in_err-correct
 returns-in_err-correct c =
