@@ -1,7 +1,7 @@
 -- Which check of a call with two plates decides. `judge` is handed lengths that two buffers have in common, and comes to what checks 1 to 8 of both
 -- come to; where it passes them, check 20 is left, and each of the two filters is accepted.
 use Prim.Native.Nat.{ℕ, ◌*◌, ◌≤◌}
-use mathlib.Core.Path.{◌≡◌, refl, sym, ap, ◌∙◌}
+use mathlib.Core.Path.{◌≡◌, sym, ap, ◌∙◌}
 use mathlib.Core.Bool.{false, cond, not}
 use mathlib.Core.List.{List, [], ◌∷◌, ◌++◌}
 use native.Mathlib.Nat.{mul-le-mul}
@@ -9,16 +9,15 @@ use native.Mathlib.Omega.{arith}
 use lib.Dec.{eqb}
 use lib.ListN.{length}
 use lib.IntN.{ℤ}
-use Rattle.std.proofs.Common.{Option, Some, None, Result, Ok, Err}
+use Rattle.std.proofs.Common.{Option, Some, None}
 use borrow.Author.Tests.{eqb-true, not-false, lt-ltb, le-ltb}
 use Rattle.plate.specs.RefusalNumbers.{refusal_input, refusal_result}
 use Rattle.plate.specs.Refusals.{Verdict, Verdict.accepted, Verdict.refused, Check, judged, Clear, bad_size, size_check, setting_checks, input_check, result_check, work_check, filter_checks, filter_verdict}
-use Rattle.plate.specs.Answers.{answered, placed_check, call_verdict}
+use Rattle.plate.specs.Answers.{placed_check, call_verdict}
 use Rattle.plate.specs.declared.setting.Setting.{Setting}
 use Rattle.plate.specs.declared.call.Fills.TheVariants.{Result as Levels}
 use Rattle.plate.specs.declared.call.Lent.{Lent}
 use Rattle.plate.specs.declared.refusal.Reason.TheVariants.{Bounds}
-use Rattle.plate.specs.declared.refusal.Refusal.{Refusal}
 use Rattle.plate.proofs.Sizes.{good_size}
 use Rattle.plate.proofs.Verdicts.{clear_accepted, accepted_clear, clash, refused_first, passed_first, clear_both, clear_first, same_after}
 use Rattle.between.specs.Lengths.{common_length, Finds}
@@ -30,11 +29,6 @@ some_pixel : (W H : ℕ) → bad_size W H ≡ false → 1 ≤ W * H
 some_pixel W H good =
     let size = good_size W H good in
     omega (arith, mul-le-mul {n₁ = 1} {m₁ = 1} {n₂ = W} {m₂ = H} size.wide size.high)
-
--- an accepted call is done
-pub done : (answer : Result Unit Refusal) → answered answer ≡ accepted tt → answer ≡ Ok tt
-done (Ok u) e = refl
-done (Err r) e = clash (sym e)
 
 -- check 20, of what the search has found
 module _ (low high : List ℤ) where

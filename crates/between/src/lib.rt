@@ -47,7 +47,9 @@ pub fn filter_between(
     };
     plate::judge(width, height, setting, lent)?;
     Reason::Bounds.refuse_at(first_above(lowest, highest))?;
-    // Each filter's own checks are among those that have passed: neither refuses.
+    // Each filter's own checks are among those that have passed: neither refuses. The answer has a line of its own, so
+    // that an edit can change it alone (must-fail/done_told_as_refused).
     engine::filter(width, height, lowest, setting, low, work)?;
-    engine::filter(width, height, highest, setting, high, work)
+    engine::filter(width, height, highest, setting, high, work)?;
+    Ok(())
 }

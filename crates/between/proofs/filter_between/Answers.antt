@@ -2,12 +2,11 @@
 -- buffers as they were; and once all checks have passed both filters are accepted, each by its own contract.
 use mathlib.Core.Path.{◌≡◌, refl, sym, ◌∙◌}
 use lib.ListN.{length}
-use Rattle.std.proofs.Common.{Ok}
 use Rattle.std.proofs.lemmas.Result.{err_from_is_err_and}
 use Rattle.plate.specs.Refusals.{Verdict.accepted}
 use Rattle.plate.proofs.Verdicts.{clash}
 use Rattle.between.specs.Refusals.{between_verdict}
-use Rattle.between.proofs.Deciding.{BothPassed, done, bounds_told, none_above, judge_refuses, judge_passes}
+use Rattle.between.proofs.Deciding.{BothPassed, bounds_told, none_above, judge_refuses, judge_passes}
 use Rattle.between.proofs.Promised.{promised}
 use Rattle.between.proofs.filter_between.Goals as goal
 use Rattle.between.proofs.filter_between.Goals.{In_ok-judge, In_ok-refuse_at}
@@ -32,7 +31,7 @@ returns-in_err-judge c =
     })
 
 pub first_above-requires : goal.first_above-requires
-first_above-requires c = (passed c).sized_low ∙ sym (passed c).sized_high
+first_above-requires c = let checked = passed (goal.at.first_above-requires c).In_ok-judge in checked.sized_low ∙ sym checked.sized_high
 
 pub returns-in_err-refuse_at : goal.returns-in_err-refuse_at
 returns-in_err-refuse_at c =
@@ -45,24 +44,26 @@ returns-in_err-refuse_at c =
       result_value = c.in_err-refuse_at.ensures ∙ bounds_told _ _ _ c.first_above.ensures.value ∙ (passed (goal.at.returns-in_err-refuse_at c).In_ok-judge).decides;
     })
 
--- neither filter refuses
+-- neither filter refuses; the second stands last, so that an edit of what it is handed fails by what it has written
 pub returns-in_err-filter : goal.returns-in_err-filter
 returns-in_err-filter c = clash (sym (c.in_err-filter.ensures.result_value ∙ (passed (goal.at.returns-in_err-filter c).In_ok-judge).filters_low))
 
 pub returns : goal.returns
 returns c =
     let checked = passed (goal.at.returns c).In_ok-judge in
-    let all = (goal.at.returns c).In_ok-refuse_at in
     let first = c.first_above.ensures in
     let none = none_above _ _ _ first.value c.in_ok-refuse_at.ensures in
-    let room : length c.filter.new.work ≡ length c.args.work.now = c.filter.auto.work in
-    let is : c.filter-2.result ≡ Ok tt = done c.filter-2.result (c.filter-2.ensures.result_value ∙ rw room checked.filters_high) in
     let low = c.in_ok-filter.ensures.res_after in
-    let high = rw is at c.filter-2.ensures.res_after in
-    rw is (record {
-      result_value = accepts all;
+    let high = c.in_ok-filter-2.ensures.res_after in
+    record {
+      result_value = accepts (goal.at.returns c).In_ok-refuse_at;
       low_after = low;
       high_after = high;
       work_after = tt;
       if_accepted = promised _ _ _ _ _ _ _ checked.sized_low checked.sized_high none first.read_to low high;
-    })
+    }
+
+pub returns-in_err-filter-2 : goal.returns-in_err-filter-2
+returns-in_err-filter-2 c =
+    let room : length c.filter.new.work ≡ length c.args.work.now = c.filter.auto.work in
+    clash (sym (c.in_err-filter-2.ensures.result_value ∙ rw room (passed (goal.at.returns-in_err-filter-2 c).In_ok-judge).filters_high))
