@@ -12,8 +12,8 @@ fn is_complete(res: &[i16], plate: &[i16], mode: usize) -> bool
     requires { length res.now ≡ length plate.now }
     ensures { result ≡ true → Complete mode plate.now res.now }
 {
-    for (found, own) in res.iter().zip(plate) {
-        if plate::key_of(*found) < frames::key_by(mode, *own) {
+    for (x, own) in plate.iter().enumerate() {
+        if plate::key_of(res[x]) < frames::key_by(mode, *own) {
             return false;
         }
     }

@@ -9,7 +9,7 @@ ghost use Rattle.eights.specs.Turned.{numbers};
 ghost use Rattle.states.specs.Runs.{Apart};
 ghost use Rattle.plans.specs.Plans.{rows_in, state_size, keys_size, block_of, half_of, half_with, starts};
 ghost use Rattle.states.specs.States.{Advanced, Joined, further_in};
-ghost use Rattle.states.specs.Holding.{Slotted, Halves, MadeRow, NextRows, AllRows, LastRow, tap_of};
+ghost use Rattle.states.specs.Holding.{Slotted, Halves, MadeRow, NextRows, LastRow, tap_of};
 
 use crate::blends::Taps;
 use crate::rows::{blend_row, join_row, load_row, start_row, store_row};
@@ -167,37 +167,11 @@ fn next_rows(
     }
 }
 
-// Row m of all states. Row m of the state before them, which is read from the work buffer, is held beside the
-// place of the first one's row, `last` further on. It is inlined for the copy of the plan that a call takes.
-#[inline(always)]
-fn make_rows(
-    held: &mut [u16],
-    work: &[u16],
-    followed: Followed,
-    batch: Batch,
-    from: usize,
-    m: usize,
-    slots: Slots,
-    last: usize,
-)
-    requires m_bound { (m < rows_in followed.plan (batch.states.past - 1)) × (keys_size followed.plan ≤ length work.now) × (from + state_size followed.plan ≤ length work.now) }
-    requires halves { Halves followed.plan (further_in batch.states) slots (length held.old) }
-    requires last_value { last ≡ half_with followed.plan (further_in batch.states) - block_of followed.plan }
-    ensures { AllRows followed.plan batch.states.first batch.states.past m work.now from slots (numbers held.old) (numbers held.new) }
-{
-    let first = batch.states.first;
-    let e = batch.states.past - 1;
-    hold_last(held, slots.now + last, work, from, followed, first, m);
-    if first < e {
-        next_rows(held, work, followed, batch, m, slots);
-    } else {
-        make_row(held, work, followed, e, m, slots);
-    }
-}
-
 // States from the one before at `from`, the last of them at `to`, which may be the same place: a row is
 // read before its place is written. The keys stand at the beginning of the work buffer; what `held` holds
-// is free.
+// is free. Row m of the state before the first, which is read from the work buffer, is held beside the place of
+// the first one's row, `last` further on. By hand, here and below: as a function of their own these lines would
+// copy the plan for each row, inlined or not.
 pub(crate) fn make_states(
     work: &mut [u16],
     held: &mut [u16],
@@ -212,14 +186,20 @@ pub(crate) fn make_states(
     ensures advanced { Advanced followed.plan batch.states.first batch.states.past work.old work.new from to }
     ensures held_len_unchanged { length held.new ≡ length held.old }
 {
+    let first = batch.states.first;
     let e = batch.states.past - 1;
-    let half = half_with(followed, e - batch.states.first);
+    let half = half_with(followed, e - first);
     let last = half - followed.block_size();
     fill_run(held, 0, half, NOTHING);
     let mut slots = Slots { was: 0, now: half };
     let rows = rows_in(followed.plan, e);
     for m in 0..rows {
-        make_rows(held, work, followed, batch, from, m, slots, last);
+        hold_last(held, slots.now + last, work, from, followed, first, m);
+        if first < e {
+            next_rows(held, work, followed, batch, m, slots);
+        } else {
+            make_row(held, work, followed, e, m, slots);
+        }
         let at = to + m * (followed.plan.planes * followed.plan.across);
         let row = followed.row(e, m);
         store_row(work, at, held, slots.now, followed.plan, row);
@@ -246,13 +226,19 @@ pub(crate) fn make_joined(
     ensures held_len_unchanged { length held.new ≡ length held.old }
     ensures best_len_unchanged { length best.new ≡ length best.old }
 {
+    let first = batch.states.first;
     let e = batch.states.past - 1;
-    let half = half_with(followed, e - batch.states.first);
+    let half = half_with(followed, e - first);
     let last = half - followed.block_size();
     fill_run(held, 0, half, NOTHING);
     let mut slots = Slots { was: 0, now: half };
     for m in 0..followed.plan.rows {
-        make_rows(held, work, followed, batch, from, m, slots, last);
+        hold_last(held, slots.now + last, work, from, followed, first, m);
+        if first < e {
+            next_rows(held, work, followed, batch, m, slots);
+        } else {
+            make_row(held, work, followed, e, m, slots);
+        }
         let at = ends
             + (followed.plan.rows - 1 - m) * (followed.plan.planes * followed.plan.across);
         let row = followed.row(e, m);
