@@ -1,14 +1,15 @@
 -- Rounding a float N / D to a whole number: cut off, or to the nearest. A whole number of at most 24 digits is an f32 itself, so the result is exact, with
 -- the float's sign; and one of at most 32,767 in size is the same in 16 bits.
-use Rattle.std.proofs.Common.{◌≡◌, ℕ, ◌+◌, ◌-◌, ◌*◌, ◌/◌, ◌^◌, ◌<◌, ◌≤◌, min, Bool, true, false, Float, ℤ, pos, neg_ℤ, ap, ◌∙◌, subst, mul_left_comm, add-mul, arith, lit<}
+use Rattle.std.proofs.Common.{◌≡◌, ℕ, ◌+◌, ◌-◌, ◌*◌, ◌/◌, ◌^◌, ◌<◌, ◌≤◌, min, zero, suc, Bool, true, false, T, Float, ℤ, pos, negsuc, neg_ℤ, refl, ap, ◌∙◌, subst, mul_left_comm, add-mul, arith, lit<, le→leb, lt→ltb, le-ltb, lt-ltb}
 use native.Mathlib.Nat.{min-eq_left}
-use lib.Ieee.{nan, inf, fin, binary32, up, down, round, to_signed}
-use lib.Ieee.Back.{round_whole}
+use lib.Signed.{mag}
+use lib.Ieee.{nan, inf, fin, binary32, up, down, round, sum, add, of_int, of_bits, in_float, in_signed, to_signed}
+use lib.Ieee.Back.{round_whole, positive_back, negative_back}
 use lib.Ieee.Exact.{HasValue}
 use lib.Ieee.Fits.{down_pos}
 use lib.Ieee.Nearest.{div_same}
 use Rattle.std.specs.Float.{round_with, ratio_floor, ratio_round_half_up, trunc, float_round}
-use Rattle.meter.proofs.Values.{with_sign}
+use Rattle.meter.proofs.Values.{with_sign, add_at}
 
 -- by any rule that gives k for every way to write N / D
 module _ (rule : ℕ → ℕ → ℕ) (N D k : ℕ) (gives : (a b : ℕ) → 0 < b → a * D ≡ N * b → rule a b ≡ k) (small : k ≤ 2 ^ 24) where
@@ -45,3 +46,24 @@ in_16_bits (fin false m e) s k h v =
     subst (λ (t : Bool). pos (min (m * up e / down e) (2 ^ 15 - 1)) ≡ with_sign t k) v.0 (ap pos (same_signed k m e (2 ^ 15 - 1) h v.1))
 in_16_bits (fin true m e) s k h v =
     subst (λ (t : Bool). neg_ℤ (pos (min (m * up e / down e) (2 ^ 15))) ≡ with_sign t k) v.0 (ap (λ (n : ℕ). neg_ℤ (pos n)) (same_signed k m e (2 ^ 15) (omega arith) v.1))
+
+-- plus 0.0 it is the float of the integer itself, which −0 is not
+own : (s : Bool) (k : ℕ) → sum binary32 s k false 0 1 ≡ of_int binary32 (with_sign s k)
+unfolding sum of_int
+own false k = rw (let e : k + 0 ≡ k = omega arith in e)
+own true zero = refl
+own true (suc n) = rw (le-ltb (suc n) 0 (omega arith), lt-ltb 0 (suc n) (omega arith), let e : suc n - 0 ≡ suc n = omega arith in e) refl
+
+pub own_value : (x : Float) (s : Bool) (k : ℕ) → HasValue x s k 1 → add binary32 x (of_bits binary32 0) ≡ of_int binary32 (with_sign s k)
+unfolding of_bits
+own_value x s k v = add_at binary32 x (fin false 0 (pos 0)) s false k 0 1 (lit< tt) v (refl, refl) ∙ own s k
+
+-- which has no fraction and is in the range of 16 bits
+small_float : (z : ℤ) → mag z ≤ 32767 → T (in_float binary32 z)
+unfolding in_float
+small_float (pos n) h = le→leb n 16777216 (omega (arith, h))
+small_float (negsuc n) h = lt→ltb n 16777216 (omega (arith, h))
+
+pub own_in_16_bits : (z : ℤ) → mag z ≤ 32767 → T (in_signed binary32 15 (of_int binary32 z)) × (to_signed 15 (of_int binary32 z) ≡ z)
+own_in_16_bits (pos n) h = positive_back binary32 15 n (small_float (pos n) h) (omega (arith, h))
+own_in_16_bits (negsuc n) h = negative_back binary32 15 n (small_float (negsuc n) h) (omega (arith, h))

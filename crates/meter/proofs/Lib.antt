@@ -1,6 +1,7 @@
 pub mod Values
 pub mod FourTimes
 pub mod Cutting
+pub mod Whole
 pub mod Quarters
 pub mod Exact
 pub mod Halves

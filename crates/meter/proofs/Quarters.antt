@@ -1,17 +1,20 @@
 -- Which floats are whole counts of quarters: the code's test passes exactly at those that the definition counts. In the range four times x is N / D, its
 -- whole part cast back equals it where x equals the quarters, and out of the range nothing is counted.
-use Rattle.std.proofs.Common.{◌≡◌, ℕ, ◌+◌, ◌*◌, ◌/◌, ◌<◌, ◌≤◌, Bool, true, false, not, ◌&&◌, ◌||◌, T, eqb, ltb, leb, ℤ, pos, sym, refl, ap, ◌∙◌, subst, le_trans, le_of_eq, mul-le-mul_right, div-lt_iff_lt-mul, zero-mul, mul-one, mul-div_cancel, arith, lit<, lit≤, eqb→eq, lt→ltb, leb→le, ltb-false, ltb-true, eq-eqb, le-leb}
+use Rattle.std.proofs.Common.{◌≡◌, ℕ, ◌+◌, ◌*◌, ◌/◌, ◌^◌, ◌<◌, ◌≤◌, Bool, true, false, not, ◌&&◌, ◌||◌, T, eqb, ltb, leb, ℤ, pos, sym, refl, ap, ◌∙◌, subst, le_trans, le_of_eq, mul-le-mul_right, div-lt_iff_lt-mul, zero-mul, mul-one, mul-div_cancel, arith, lit<, lit≤, eqb→eq, lt→ltb, leb→le, ltb-false, ltb-true, eq-eqb, le-leb}
 use mathlib.Core.Bool.{beq}
 use denote.Floats.{passes}
 use lib.Ieee.{Float, nan, inf, fin, binary32, up, down, fits, mul, eq, lt, le, of_bits, level}
 use lib.Ieee.Exact.{HasValue}
 use lib.Ieee.Fits.{and_l, and_r, and_i, down_pos}
+use lib.Ieee.Order.{transfer}
+use Rattle.basics.proofs.Numbers.{factor_zero}
 use Rattle.basics.proofs.Tests.{or_left, not-false}
 use Rattle.meter.specs.Numbers.{max_quarters, quarters, is_quarters, quarters_of, bad_number}
 use Rattle.std.specs.Float.{trunc}
 use Rattle.meter.proofs.Values.{eq_at}
 use Rattle.meter.proofs.FourTimes.{times_four}
 use Rattle.meter.proofs.Cutting.{cut_value}
+use Rattle.meter.proofs.Whole.{sign_aside}
 
 -- ---- the definition counts what equals a count, and nothing else
 
@@ -111,11 +114,6 @@ above_range x f = none_there x (λ t. subst T f (in_range x (quarters_of x) t).1
 abbrev pub four_times : Float → Float
 four_times x = mul binary32 x (of_bits binary32 1082130432)
 
--- the sign of a number that is 0 makes no difference
-sign_aside : (s : Bool) (n k : ℕ) → (s ≡ true → n ≡ 0) → level s n s k ≡ level s n false k
-sign_aside false n k h = refl
-sign_aside true n k h = rw (h refl)
-
 kept : (a b : Bool) → b ≡ true → a ≡ not (not (a && b))
 kept true b e = rw e
 kept false b e = refl
@@ -145,3 +143,32 @@ told nan f l h = absurd (passes false l)
 told (inf false) f l h = absurd (passes false h)
 told (inf true) f l h = absurd (passes false l)
 told (fin s m e) f l h = told_fin s m e (passes (fits binary32 (fin s m e)) f) (inside s m e (passes (le (fin false 0 (pos 0)) (fin s m e)) l) (passes (le (fin s m e) (fin false 1 (pos 13))) h))
+
+-- and y is small enough for the code's test of a whole number (Whole.antt): not below zero, and less than 2 ^ 22
+room_at : (y : Float) (s : Bool) (N D : ℕ) → 0 < D → HasValue y s N D → (s ≡ true → N ≡ 0) → N ≤ 32768 * D
+    → T (le (fin false 0 (pos 0)) y) × T (lt y (fin false 1 (pos 22)))
+unfolding le lt eq
+room_at nan s N D D-pos v none b = absurd v
+room_at (inf u) s N D D-pos v none b = absurd v
+room_at (fin false m e) s N D D-pos v none b =
+    let h : m * up e * 1 ≤ 32768 * down e = transfer (m * up e) 32768 (down e) 1 N 32768 D 1 D-pos (lit< tt) v.1 refl (omega (arith, b)) in
+    (le_or (0 * down e) (m * up e * 1) (omega (arith, zero-mul (down e))), lt→ltb (m * up e * 1) (1 * 2 ^ 22 * down e) (omega (arith, down_pos e)))
+room_at (fin true m e) s N D D-pos v none b =
+    let y : m * up e ≡ 0 = factor_zero (m * up e) D D-pos (v.1 ∙ ap (λ (n : ℕ). n * down e) (none (sym v.0)) ∙ zero-mul (down e)) in
+    let z : 0 * down e ≡ m * up e * 1 = omega (arith, zero-mul (down e)) in (
+      and_i (eqb (0 * down e) (m * up e * 1)) (eqb (0 * down e) 0) (passes (eqb (0 * down e) (m * up e * 1)) (eq-eqb (0 * down e) (m * up e * 1) z)) (passes (eqb (0 * down e) 0) (eq-eqb (0 * down e) 0 (zero-mul (down e)))),
+      lt→ltb 0 (m * up e * 1 + 1 * 2 ^ 22 * down e) (omega (arith, down_pos e)),
+    )
+
+pub room : (x : Float) → fits binary32 x ≡ true → le (of_bits binary32 0) x ≡ true → le x (of_bits binary32 1174405120) ≡ true
+    → T (le (fin false 0 (pos 0)) (four_times x)) × T (lt (four_times x) (fin false 1 (pos 22)))
+unfolding of_bits le lt eq
+room nan f l h = absurd (passes false l)
+room (inf false) f l h = absurd (passes false h)
+room (inf true) f l h = absurd (passes false l)
+room (fin s m e) f l h =
+    let r : Inside s m e = inside s m e (passes (le (fin false 0 (pos 0)) (fin s m e)) l) (passes (le (fin s m e) (fin false 1 (pos 13))) h) in
+    room_at (mul binary32 (fin s m e) (fin false 1 (pos 2))) s (m * up e * 4) (down e) (down_pos e)
+    (times_four s m e (passes (fits binary32 (fin s m e)) f) r.bound)
+    (λ w. ap (λ (a : ℕ). a * 4) (r.sign w))
+    (let g : m * up e ≤ 8192 * down e = r.bound in omega arith)

@@ -18,6 +18,11 @@ pub record IsEighths (x : Float) (z : ℤ) : Type 0 where
   pub equal : Exactly x z
   pub small : unsigned_abs z ≤ 65536
 
+-- x is some whole count of eighths
+pub record InEighths (x : Float) : Type 0 where
+  pub count : ℤ
+  pub counted : IsEighths x count
+
 -- what a figure is resolved to: its mean, or none where it has a bad number
 abbrev pub Resolves : Option Float → Figure → Type 0
 Resolves (Some x) f = (bad_figure f ≡ false) × IsEighths x (pos (eighths_of f))

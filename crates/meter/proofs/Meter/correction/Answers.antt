@@ -54,6 +54,9 @@ module _ (c : After-difference) where
   difference_is : IsEighths c.difference.result (difference_of c.args.self)
   difference_is = c.difference.ensures (eighths_of c.args.self.lamp) (eighths_of c.args.self.dark) lamp_is.1 dark_is.1
 
+pub rounded-requires : goal.rounded-requires
+rounded-requires c = record { count = difference_of c.args.self; counted = difference_is c }
+
 pub returns : goal.returns
 returns c =
     let m = c.args.self in
