@@ -122,6 +122,13 @@ pub layer_none : (held : List ℕ) (pitch t0 t1 t2 x : ℕ) → 0 ≡ layer_ahea
 unfolding layer_ahead
 layer_none held pitch t0 t1 t2 x = refl
 
+-- the lowest plane, below which there is nothing
+pub blended_lowest :
+    (held : List ℕ) (pitch t0 t1 t2 : ℕ) (key : ℕ → ℕ) (x v k g : ℕ) →
+    v ≡ min k g → k ≡ key x → g ≡ layer_ahead held pitch t0 t1 t2 1 x → v ≡ blended held pitch t0 t1 t2 key 0 x
+unfolding layer_ahead
+blended_lowest held pitch t0 t1 t2 key x v k g ev ek eg = ev ∙ rw (ek, eg) (omega arith)
+
 -- a plane's number, by that of the plane below
 pub blended_next :
     (held : List ℕ) (pitch t0 t1 t2 : ℕ) (key : ℕ → ℕ) (j x v w k g b : ℕ) →

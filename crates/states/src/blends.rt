@@ -72,6 +72,21 @@ fn greatest_at(held: &[u16], taps: Taps, x: usize) -> [u16; 8]
     )
 }
 
+// Eight pixels of a row that has three planes, written out, since two gaps are asked for most often: all is read
+// before the first store.
+#[inline(always)]
+fn blend_three(held: &mut [u16], key: [u16; 8], taps: Taps, x: usize, pitch: usize)
+    requires { BlendFits 3 pitch x taps.t0 taps.t1 taps.t2 taps.to (length held.old) }
+    ensures { (keys : ℕ → ℕ) → ((i : ℕ) → i < 8 → turned (get_or key i 0) ≡ keys (x + i)) → Blent (numbers held.old) (numbers held.new) keys 3 pitch taps.t0 taps.t1 taps.t2 taps.to x (x + 8) }
+{
+    let a = greatest_at(held, taps, x);
+    let b = greatest_at(held, taps, x + pitch);
+    let c = greatest_at(held, taps, x + 2 * pitch);
+    put_eight(held, taps.to + x, lower(key, a));
+    put_eight(held, taps.to + x + pitch, greater(lower(key, b), a));
+    put_eight(held, taps.to + x + 2 * pitch, greater(lower(key, c), b));
+}
+
 // Eight pixels of a row in all its planes.
 #[inline(always)]
 fn blend_eight(held: &mut [u16], key: [u16; 8], taps: Taps, x: usize, pitch: usize, planes: usize)
@@ -87,9 +102,9 @@ fn blend_eight(held: &mut [u16], key: [u16; 8], taps: Taps, x: usize, pitch: usi
     }
 }
 
-// The pixels of a row, and up to seven more; where they end is returned. With the number of planes known when
-// it is compiled, the loop over them goes. By hand, here and below: the clause needs the end as a number
-// (`Blent`), which a range by steps of eight does not tell.
+// The pixels of a row, and up to seven more; where they end is returned. The number of planes is known when it is
+// compiled, so that the test of it goes, and with one plane the loop over planes. By hand, here and below: the
+// clause needs the end as a number (`Blent`), which a range by steps of eight does not tell.
 fn fixed_run<const PLANES: usize>(
     held: &mut [u16],
     keys: &[u16],
@@ -104,7 +119,11 @@ fn fixed_run<const PLANES: usize>(
     let mut x = row.lo;
     while x < row.hi {
         let key = turn_all(eight_at(keys, row.at + x));
-        blend_eight(held, key, taps, x, pitch, PLANES);
+        if PLANES == 3 {
+            blend_three(held, key, taps, x, pitch);
+        } else {
+            blend_eight(held, key, taps, x, pitch, PLANES);
+        }
         x += 8;
     }
     x
